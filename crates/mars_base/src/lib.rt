@@ -1,0 +1,23 @@
+//! The ground that every crate stands on: words and their operators, places in a text, lists that
+//! contracts see as lists, the shape of a cluster, counted steps, and the traits of the outside.
+#![tactic(auto)]
+
+pub mod file;
+pub mod outside;
+pub mod shape;
+pub mod shelf;
+pub mod sink;
+pub mod source;
+pub mod steps;
+pub mod text;
+pub mod word;
+
+pub use file::File;
+pub use outside::{Shelf, ShelfFault, Sink, SinkFault, Source, SourceFault};
+pub use shape::{ClusterShape, Port, Side, least_round};
+pub use shelf::MemShelf;
+pub use sink::MemSink;
+pub use source::MemSource;
+pub use steps::Steps;
+pub use text::{Memory, Span, Text, Words};
+pub use word::{BinOp, Role, UnOp, binary, unary};
