@@ -4,4 +4,5 @@ pub mod MemSink
 pub mod MemSource
 pub mod Outside
 pub mod Shape
+pub mod Store
 pub mod Word

@@ -1,0 +1,4 @@
+pub mod Instance
+pub mod Meaning
+pub mod Plain
+pub mod Tree
