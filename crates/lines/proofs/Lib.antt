@@ -1,0 +1,6 @@
+pub mod Feeds
+pub mod Left
+pub mod Parts
+pub mod Reading
+pub mod Returns
+pub mod Split
