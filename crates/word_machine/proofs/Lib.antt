@@ -1,1 +1,4 @@
+pub mod Course
 pub mod Exec
+pub mod Moves
+pub mod Runs
