@@ -135,9 +135,12 @@ leads code k h q (Calls t) ks ls rs ss v r c f =
     let low : 0 ≡ h - 0 + 0 = omega (arith, w.before) in
     record {
       height = ap (height_at code.instrs) f.0 ∙ start_height code t v w.start ∙ ap Some low;
-      calls = subst (λ (n : ℕ). IsCalled code n ss) (sym (ap (routine_of code.starts) f.0)) (subst (λ (xs : List ℕ). IsCalled code (routine_of code.starts t) xs) (sym f.2)
-        (w.not_first, w.after, (λ le. subst (λ (n : ℕ). routine_of code.starts t < n) (sym same) (w.earlier (subst (λ (n : ℕ). 1 ≤ n) same le))),
-          subst (λ (n : ℕ). IsCalled code n rs) (sym same) c));
+      calls = subst (λ (n : ℕ). IsCalled code n ss) (sym (ap (routine_of code.starts) f.0)) (subst (λ (xs : List ℕ). IsCalled code (routine_of code.starts t) xs) (sym f.2) (
+        w.not_first,
+        w.after,
+        (λ le. subst (λ (n : ℕ). routine_of code.starts t < n) (sym same) (w.earlier (subst (λ (n : ℕ). 1 ≤ n) same le))),
+        subst (λ (n : ℕ). IsCalled code n rs) (sym same) c,
+      ));
     }
 leads code k h q Returns ks ls rs ss v r c f =
     let called : IsCalled code (routine_of code.starts k) (q ∷ ss) = subst (λ (xs : List ℕ). IsCalled code (routine_of code.starts k) xs) f.0 c in
@@ -149,7 +152,7 @@ leads code k h q Stops ks ls rs ss v r c f = absurd f
 at_course : (code : Code) (s : State) → IsOnCourse code s → (slot : Slot) × (slice_get code.instrs s.pc ≡ Some slot) × (slot.height ≡ length s.stack)
 at_course code s c = slot_of (slice_get code.instrs s.pc) (length s.stack) c.height
 
-instr_here : (code : Code) (k : ℕ) (slot : Slot) → slice_get code.instrs k ≡ Some slot → instr_at code.instrs k ≡ Some slot.instr
+pub instr_here : (code : Code) (k : ℕ) (slot : Slot) → slice_get code.instrs k ≡ Some slot → instr_at code.instrs k ≡ Some slot.instr
 instr_here code k slot e = ap (option_map (λ (slot : Slot). slot.instr)) e
 
 some_is : {A : Type 0} (x y : A) → Some x ≡ Some y → x ≡ y
@@ -165,9 +168,9 @@ course_step code s t v c e =
     let same : m.0 ≡ slot.instr = some_is m.0 slot.instr (sym m.1 ∙ instr_here code s.pc slot here.1) in
     let moves : Moves (action_of slot.instr) s t = subst (λ (i : Instr). Moves (action_of i) s t) same m.2 in
     let led = leads code s.pc slot.height t.pc (action_of slot.instr) s.counters t.counters s.returns t.returns v
-        (record { next = typed.next; jump = typed.jump; call = typed.call; ends = typed.ends; last = typed.last }) c.calls moves.control in
+    (record { next = typed.next; jump = typed.jump; call = typed.call; ends = typed.ends; last = typed.last }) c.calls moves.control in
     let height : slot.height - pops_of (action_of slot.instr) + pushes_of (action_of slot.instr) ≡ length t.stack =
-        ap (λ (n : ℕ). n - pops_of (action_of slot.instr) + pushes_of (action_of slot.instr)) here.2 ∙ sym moves.height in
+    ap (λ (n : ℕ). n - pops_of (action_of slot.instr) + pushes_of (action_of slot.instr)) here.2 ∙ sym moves.height in
     record {
       height = led.height ∙ ap Some height;
       places = moves.words ∙ c.places;
@@ -231,9 +234,10 @@ ready code s slot v c e =
 pub course_bounds : (code : Code) (s : State) → IsVerified code → IsOnCourse code s → (length s.stack ≤ 64) × (length s.returns ≤ 16)
 course_bounds code s v c =
     let here = at_course code s c in
-    let typed : IsTypedAt code s.pc here.0 = v.each s.pc here.0 here.1 in
-    (omega (arith, typed.height_fits, here.2),
-      by_depth (called_most code v.whole.starts_most (routine_of code.starts s.pc) s.returns (routine_most code.starts s.pc v.whole.starts_most) c.calls))
+    let typed : IsTypedAt code s.pc here.0 = v.each s.pc here.0 here.1 in (
+      omega (arith, typed.height_fits, here.2),
+      by_depth (called_most code v.whole.starts_most (routine_of code.starts s.pc) s.returns (routine_most code.starts s.pc v.whole.starts_most) c.calls),
+    )
   where
     by_depth : (((routine_of code.starts s.pc ≡ 0) × (length s.returns ≡ 0)) ⊎ ((1 ≤ routine_of code.starts s.pc) × (length s.returns + routine_of code.starts s.pc ≤ 17)))
         → length s.returns ≤ 16
@@ -270,12 +274,12 @@ act_free (Stores a) pc (w ∷ st) ws ks rs r e =
 act_free (LoadsAt a n) pc [] ws ks rs r e = absurd (omega (arith, r.operands))
 act_free (LoadsAt a n) pc (i ∷ st) ws ks rs r e =
     gives_free (place_of a n i) (λ p. found (slice_get ws p) (λ w. Goes (at (pc + 1) (w ∷ st) ws ks rs)))
-      (λ p is. found_free ws p (λ w. Goes (at (pc + 1) (w ∷ st) ws ks rs)) (omega (arith, place_below a n i p is, r.place.1)) (λ w. goes_free (at (pc + 1) (w ∷ st) ws ks rs))) e
+    (λ p is. found_free ws p (λ w. Goes (at (pc + 1) (w ∷ st) ws ks rs)) (omega (arith, place_below a n i p is, r.place.1)) (λ w. goes_free (at (pc + 1) (w ∷ st) ws ks rs))) e
 act_free (StoresAt a n) pc [] ws ks rs r e = absurd (omega (arith, r.operands))
 act_free (StoresAt a n) pc (w ∷ []) ws ks rs r e = absurd (omega (arith, r.operands))
 act_free (StoresAt a n) pc (w ∷ i ∷ st) ws ks rs r e =
     gives_free (place_of a n i) (λ p. found (slice_get ws p) (λ _. Goes (at (pc + 1) st (slice_set ws p w) ks rs)))
-      (λ p is. found_free ws p (λ _. Goes (at (pc + 1) st (slice_set ws p w) ks rs)) (omega (arith, place_below a n i p is, r.place.1)) (λ _. goes_free (at (pc + 1) st (slice_set ws p w) ks rs))) e
+    (λ p is. found_free ws p (λ _. Goes (at (pc + 1) st (slice_set ws p w) ks rs)) (omega (arith, place_below a n i p is, r.place.1)) (λ _. goes_free (at (pc + 1) st (slice_set ws p w) ks rs))) e
 act_free (Combines op) pc [] ws ks rs r e = absurd (omega (arith, r.operands))
 act_free (Combines op) pc (y ∷ []) ws ks rs r e = absurd (omega (arith, r.operands))
 act_free (Combines op) pc (y ∷ x ∷ st) ws ks rs r e =
@@ -289,7 +293,7 @@ act_free (Clears c) pc st ws ks rs r e =
     found_free ks c (λ _. Goes (at (pc + 1) st ws (slice_set ks c 0) rs)) r.counter (λ _. goes_free (at (pc + 1) st ws (slice_set ks c 0) rs)) e
 act_free (Counts c n) pc st ws ks rs r e =
     found_free ks c (λ k. gives (count_up k n) (λ v. Goes (at (pc + 1) st ws (slice_set ks c v) rs))) r.counter
-      (λ k. gives_free (count_up k n) (λ v. Goes (at (pc + 1) st ws (slice_set ks c v) rs)) (λ v is. goes_free (at (pc + 1) st ws (slice_set ks c v) rs))) e
+    (λ k. gives_free (count_up k n) (λ v. Goes (at (pc + 1) st ws (slice_set ks c v) rs)) (λ v is. goes_free (at (pc + 1) st ws (slice_set ks c v) rs))) e
 act_free (Calls t) pc st ws ks rs r e = cc
 act_free Returns pc st ws ks [] r e = absurd (omega (arith, r.calls))
 act_free Returns pc st ws ks (x ∷ rs) r e = cc
@@ -353,6 +357,7 @@ first_routine (x ∷ xs) e rise =
   where
     later : (k : ℕ) → slice_index (x ∷ xs) k < slice_index (x ∷ xs) (k + 1) → 1 ≤ slice_index xs k
     later k up = let same : slice_index (x ∷ xs) (k + 1) ≡ slice_index xs k = ap (slice_index (x ∷ xs)) (add-one k) in omega arith
+
     cond_one : (b : Bool) → cond b 1 0 ≤ 1
     cond_one true = omega arith
     cond_one false = omega arith

@@ -71,8 +71,8 @@ module _ (instrs : List Slot) (limit : ℕ) where
   steps_came zero s cycles = tt
   steps_came (suc n) s cycles =
       came_first s cycles (nat_le (cycles + cost_at instrs s.pc) limit) _
-        (came_next s cycles (λ t. steps n instrs limit t (cycles + cost_at instrs s.pc)) (step instrs s) refl
-          (λ t. steps_came n t (cycles + cost_at instrs s.pc)))
+      (came_next s cycles (λ t. steps n instrs limit t (cycles + cost_at instrs s.pc)) (step instrs s) refl
+      (λ t. steps_came n t (cycles + cost_at instrs s.pc)))
 
   -- an execution that is over is a run, unless it is stuck
   pub exec_came : (s : State) (cycles : ℕ) → Came s cycles (exec_from instrs limit s cycles)
