@@ -1,0 +1,11 @@
+use Rattle.std.proofs.Common.{◌≡◌, ◌+◌, ◌≤◌, ◌++◌, length, drop, take}
+use Rattle.word_machine.specs.Cells.{cell_words, width_of, total_width, is_out}
+use Rattle.word_machine.proofs.load.copy_outs.Given as goal
+
+-- what is copied and the words of the cells that are left are the cells' words
+abbrev pub invariant-loop-cell : goal.invariant-loop-cell
+invariant-loop-cell l = record {
+  copied : take l.filled l.into ++ cell_words is_out (drop l.cell-index l.cell-items) l.words ≡ cell_words is_out l.fn.code.cells l.fn.words;
+  room : l.filled + width_of is_out (drop l.cell-index l.cell-items) ≡ length l.into;
+  words : total_width (drop l.cell-index l.cell-items) ≤ length l.words;
+}

@@ -1,0 +1,17 @@
+//! The word machine: its instructions, its code and the typing rules, executions under a limit, free runs,
+//! and processors.
+#![tactic(auto)]
+
+pub mod code;
+pub mod cpu;
+pub mod load;
+pub mod machine;
+pub mod operands;
+pub mod places;
+pub mod registers;
+pub mod verified;
+
+pub use code::{CellShape, Code, Instr, Slot, cost};
+pub use cpu::{Cpu, Turn};
+pub use machine::Machine;
+pub use verified::Verified;

@@ -1,0 +1,140 @@
+//! The machine that runs verified code.
+ghost use Rattle.std.specs.Prelude.{◌≡◌, ◌<◌, ◌≤◌, ◌^◌, length, slice_get, Some};
+ghost use Rattle.word_machine.specs.Typing.{IsVerified};
+
+use crate::load::{copy_outs, copy_state, fill};
+use crate::operands::{Operands, Returns};
+use crate::places::{Counters, Places};
+use crate::registers::{Registers, Went};
+use crate::{Code, Cpu, Slot, Turn, Verified, cost};
+use mars_base::Memory;
+use std::alloc::Global;
+
+/// A processor of 4,096 words of data, 256 counters, 64 operands and 16 open calls. All its memory is taken
+/// when it is made.
+#[derive(Drop)]
+pub struct Machine {
+    registers: Registers,
+    cycles: u32,
+    turn: Turn,
+    limit: u32,
+}
+
+impl Machine {
+    ghost use Rattle.word_machine.specs.Machine.{CanStep, Stepped};
+
+    /// A machine with no program.
+    pub fn new(alloc: Global) -> Result<Machine, Memory> {
+        let words = Places::new(alloc)?;
+        let counters = Counters::new(alloc)?;
+        Ok(Machine {
+            registers: Registers {
+                pc: 0,
+                stack: Operands::new(),
+                words,
+                counters,
+                returns: Returns::new(),
+            },
+            cycles: 0,
+            turn: Turn::Short,
+            limit: 0,
+        })
+    }
+
+    // Does the next instruction, unless its cost would pass the limit; tells how the execution stands then.
+    fn step(&mut self, code: &Code, limit: u32) -> Option<Turn>
+        requires limit { limit < 2 ^ 31 }
+        requires verified { IsVerified code.now }
+        requires able { CanStep code.now self.old }
+        requires below { self.old.cycles ≤ limit }
+        ensures { Stepped code.now limit self.old self.new result }
+    {
+        let slot = slot_at(code, self.registers.pc);
+        let spent = self.cycles + cost(&slot.instr);
+        if spent > limit {
+            return Some(Turn::Short);
+        }
+        self.cycles = spent;
+        match self.registers.act(slot.instr) {
+            Went::On => None,
+            Went::Ended => Some(Turn::Halted),
+            Went::Broke => Some(Turn::Broken),
+        }
+    }
+}
+
+impl Cpu for Machine {
+    ghost use Rattle.word_machine.specs.Cells.{width_of, is_in, is_out, is_state};
+    ghost use Rattle.word_machine.specs.Execution.{exec};
+    ghost use Rattle.word_machine.specs.Machine.{Runs};
+    ghost use Rattle.word_machine.specs.Laws.{ran_within, ran_costs, ran_agrees};
+
+    type Program = Verified;
+
+    ghost ins_of = { λ code. width_of is_in code.cells };
+
+    ghost outs_of = { λ code. width_of is_out code.cells };
+
+    ghost states_of = { λ code. width_of is_state code.cells };
+
+    ghost execution = { exec };
+
+    ghost runs = { Runs };
+
+    ghost within = { ran_within };
+
+    ghost costs = { ran_costs };
+
+    ghost agrees = { ran_agrees };
+
+    fn load(&mut self, program: &Verified, state: &[i32], ins: &[i32]) {
+        let code = program.code();
+        self.registers.pc = 0;
+        self.registers.stack.clear();
+        fill(&mut self.registers.words, code, state, ins);
+        self.registers.counters.reset(usize::from(code.counters));
+        self.registers.returns.clear();
+        self.cycles = 0;
+        self.turn = Turn::Short;
+        self.limit = 0;
+    }
+
+    fn advance(&mut self, program: &Verified, limit: u32) -> Turn {
+        match self.turn {
+            Turn::Halted => return Turn::Halted,
+            Turn::Broken => return Turn::Broken,
+            Turn::Short => {}
+        }
+        if limit <= self.limit {
+            return Turn::Short;
+        }
+        let code = program.code();
+        loop {
+            if let Some(turn) = self.step(code, limit) {
+                self.limit = limit;
+                self.turn = turn;
+                return turn;
+            }
+        }
+    }
+
+    fn cycles(&self) -> u32 {
+        self.cycles
+    }
+
+    fn outs(&self, program: &Verified, into: &mut [i32]) {
+        copy_outs(program.code(), self.registers.words.as_slice(), into);
+    }
+
+    fn state(&self, program: &Verified, into: &mut [i32]) {
+        copy_state(program.code(), self.registers.words.as_slice(), into);
+    }
+}
+
+// The instruction at a number.
+fn slot_at(code: &Code, at: usize) -> Slot
+    requires { at < length code.now.instrs }
+    ensures { slice_get code.now.instrs at ≡ Some result }
+{
+    code.instrs.as_slice()[at]
+}
