@@ -27,7 +27,7 @@ pub fn best_split(caps: &[u32], weights: &[u64], total: u32) -> u64
     let mut served = [false; MOST_LOOPS];
     let mut left = total;
     let mut worth: u64 = 0;
-    'serve: while let Some(i) = heaviest_unserved(weights, &served) {
+    while let Some(i) = heaviest_unserved(weights, &served) {
         let turns = caps[i].min(left);
         served[i] = true;
         left -= turns;

@@ -4,7 +4,7 @@
 -- v above 0 is the cost v - 1, so that the entry 1 is its one.
 use Rattle.std.specs.Prelude.{◌≡◌, ℕ, zero, suc, ◌+◌, ◌-◌, ◌^◌, ◌≤◌, List, max, min, slice_index, EachIndex}
 
--- the product of two entries: the cost of both, and impossible where one of the two is
+-- the product of two entries: x + y - 1, the cost of both, where both are above 0, and impossible where one is not
 abbrev pub product : ℕ → ℕ → ℕ
 product zero y = 0
 product (suc x) zero = 0

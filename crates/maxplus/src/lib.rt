@@ -47,7 +47,7 @@ pub fn power(a: &[u64], n: u32, out: &mut [u64], scratch: &mut [u64])
     let (current, next) = scratch.split_at_mut(a.len());
     set_identity(out);
     set_identity(current);
-    for turn in 0..n {
+    for _ in 0..n {
         convolve(a, current, next);
         raise(out, next);
         current.copy_from_slice(next);
@@ -144,11 +144,11 @@ mod tests {
     }
 
     /// The greatest of the folds with no cap.
-    fn plain_power(a: &[u64], n: u32) -> [u64; MOST] {
+    fn plain_power(a: &[u64], folds: u32) -> [u64; MOST] {
         let mut fold = [0; MOST];
         fold[0] = 1;
         let mut greatest = fold;
-        for _ in 0..n {
+        for _ in 0..folds {
             fold = plain_convolution(a, &fold);
             for k in 0..MOST {
                 greatest[k] = greatest[k].max(fold[k]);
