@@ -86,6 +86,7 @@ impl LineReader {
     /// Puts the words of the next line into `into`, which has as many places as a line has words.
     pub fn next<I: Source>(&mut self, source: &mut I, into: &mut [i32]) -> Result<Next, LineFault>
         ensures line { result ≡ Ok Next.Line → lines_left self.old (I.left source.old) (length into.old) ≡ option_map (Line into.new) (lines_left self.new (I.left source.new) (length into.old)) }
+        ensures counted { result ≡ Ok Next.Line → (count_of self.new ≡ count_of self.old + 1) × (count_of self.old < 1000000) }
         ensures end { result ≡ Ok Next.End → IfSome (lines_left self.old (I.left source.old) (length into.old)) (λ lines. lines ≡ End) }
         ensures bad { (n : ℕ) → result ≡ Err (LineFault.Bad n) → IfSome (lines_left self.old (I.left source.old) (length into.old)) (λ lines. lines ≡ Bad n) }
         ensures read { result ≡ Err LineFault.Read → Rose (I.faults source.old) (I.faults source.new) }
