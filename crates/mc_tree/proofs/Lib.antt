@@ -1,0 +1,2 @@
+pub mod LexemeRows
+pub mod TokenFacts
