@@ -1,9 +1,9 @@
 //! Tokens: cuts a source text into names, numbers, keywords and signs.
 #![tactic(auto)]
 
-ghost use Rattle.std.specs.Prelude.{◌≡◌, ◌≤◌, ℕ, List, length, ◌⊎◌, IfOk, IsErrAnd, MatchResult, Err};
+ghost use Rattle.std.specs.Prelude.{◌≡◌, ◌≤◌, ℕ, List, length, ◌⊎◌, IfOk, IsErrAnd, MatchResult, Err, ◌<◌, ◌^◌};
 ghost use Rattle.mc_tree.specs.declared.token.Token.{Token as TokenData};
-ghost use Rattle.mc_tree.specs.Tokens.{IsTokens, IsBadAt};
+ghost use Rattle.mc_tree.specs.Tokens.{IsTokens, IsBadAt, token};
 
 mod scan;
 mod table;
@@ -60,24 +60,32 @@ fn cut(alloc: Global, bytes: &[u8]) -> Result<Vec<Token>, LexFault>
     let mut tokens = Vec::new(alloc);
     let mut at: usize = 0;
     while at < bytes.len() {
-        match front_of(&bytes[at..]) {
-            Some(front) => {
-                let end = at + front.len;
-                match front.lexeme {
-                    Lexeme::Gap => {}
-                    Lexeme::Token(kind) => {
-                        let span = Span {
-                            from: at as u32,
-                            to: end as u32,
-                        };
-                        tokens.push(Token { kind, span })?;
-                    }
-                    Lexeme::Malformed => return Err(LexFault::Bad(at as u32)),
-                }
-                at = end;
-            }
-            None => return Err(LexFault::Bad(at as u32)),
+        let Some(front) = front_of(&bytes[at..]) else {
+            return Err(LexFault::Bad(at as u32));
+        };
+        let end = at + front.len;
+        match front.lexeme {
+            Lexeme::Gap => {}
+            Lexeme::Token(kind) => tokens.push(spanned(kind, at, end))?,
+            Lexeme::Malformed => return Err(LexFault::Bad(at as u32)),
         }
+        at = end;
     }
     Ok(tokens)
 }
+
+// A token and where it stands.
+fn spanned(kind: TokenKind, from: usize, to: usize) -> Token
+    requires from { from < 2 ^ 32 }
+    requires to { to < 2 ^ 32 }
+    ensures { result ≡ token kind from to }
+{
+    let span = Span {
+        from: from as u32,
+        to: to as u32,
+    };
+    Token { kind, span }
+}
+
+#[cfg(test)]
+mod tests;

@@ -13,11 +13,11 @@ loop-at-preserved-in-Gap c =
 
 pub loop-at-preserved : goal.loop-at-preserved
 loop-at-preserved c =
-    step_token c.args.bytes.now c.loop-at.at _ (take_rest c.args.bytes.now c.loop-at.at) c.in-Some.front.len c.in-Token.kind c.loop-at.tokens.items c.push.new.self.items (rw c.in-Token.is at c.in-Some.ensures.some) c.in_ok-push-in-Token.ensures.items c.loop-at.invariant
+    step_token c.args.bytes.now c.loop-at.at _ (take_rest c.args.bytes.now c.loop-at.at) c.in-Some.front.len c.in-Token.kind c.loop-at.tokens.items c.push.new.self.items (rw c.in-Token.is at c.in-Some.ensures.some) (rw c.spanned.ensures at c.in_ok-push-in-Token.ensures.items) c.loop-at.invariant
 
-pub returns-in-None-clause-bad : goal.returns-in-None-clause-bad
-returns-in-None-clause-bad c o e =
-    told c.args.bytes.now c.loop-at.at o (nothing c.args.bytes.now c.loop-at.at _ (take_rest c.args.bytes.now c.loop-at.at) c.loop-at.tokens.items (c.in-None.ensures.none refl) c.loop-at-test.true c.loop-at.invariant) e
+pub returns-in_default-clause-bad : goal.returns-in_default-clause-bad
+returns-in_default-clause-bad c o e =
+    told c.args.bytes.now c.loop-at.at o (nothing c.args.bytes.now c.loop-at.at _ (take_rest c.args.bytes.now c.loop-at.at) c.loop-at.tokens.items (c.in_default.ensures.none refl) c.loop-at-test.true c.loop-at.invariant) e
 
 pub returns-clause-ok : goal.returns-clause-ok
 returns-clause-ok c = all_cut c.args.bytes.now c.loop-at.at c.loop-at.tokens.items c.loop-at-test.false c.loop-at.invariant
