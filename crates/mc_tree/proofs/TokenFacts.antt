@@ -1,5 +1,5 @@
 -- A text has at most one list of tokens, or one offset of a bad byte, and never both; spans are in order.
-use Rattle.std.proofs.Common.{◌≡◌, ℕ, ◌+◌, ◌-◌, ◌<◌, ◌≤◌, List, [], ◌∷◌, length, take, drop, arith, Some, None, refl, ap, ◌∙◌, sym, subst}
+use Rattle.std.proofs.Common.{◌≡◌, ℕ, zero, suc, slice_get, ◌+◌, ◌-◌, ◌<◌, ◌≤◌, List, [], ◌∷◌, length, take, drop, arith, Some, None, refl, ap, ◌∙◌, sym, subst}
 use Rattle.std.proofs.lemmas.List.{length-drop}
 use Rattle.mc_tree.specs.declared.token.Token.{Token}
 use Rattle.mc_tree.specs.declared.token.TokenKind.{TokenKind}
@@ -121,3 +121,30 @@ module _ (bytes : List ℕ) where
   bad_inside {at = at} (R.malformed n l) = (omega arith, omega (arith, l.some, inside at n Malformed l))
   bad_inside (R.after_gap n l d) = let h = bad_inside d in (omega (arith, h.0), h.1)
   bad_inside (R.after_token n k l d) = let h = bad_inside d in (omega (arith, h.0), h.1)
+
+  -- a token's text spells it
+  pub spelled_from : {at : ℕ} {ts : List Token} → TokensFrom bytes at ts → (i : ℕ) (t : Token) → slice_get ts i ≡ Some t → lexeme_of (text_of bytes t.span) ≡ Some (Spelled t.kind)
+  spelled_from (R.ends e) i t is = cc
+  spelled_from (R.passes n l d) i t is = spelled_from d i t is
+  spelled_from {at = at} (R.takes n k l d) zero t is =
+      let same_token : token k at (at + n) ≡ t = cc in
+      let len : at + n - at ≡ n = omega arith in
+      subst (λ (u : Token). lexeme_of (text_of bytes u.span) ≡ Some (Spelled u.kind)) same_token (rw len l.here)
+  spelled_from (R.takes n k l d) (suc i) t is = spelled_from d i t is
+
+  pub token_spelled : {ts : List Token} → IsTokens bytes ts → (i : ℕ) (t : Token) → slice_get ts i ≡ Some t → lexeme_of (text_of bytes t.span) ≡ Some (Spelled t.kind)
+  token_spelled h i t is = spelled_from h i t is
+
+end_after : (at end : ℕ) (ts : List Token) → SpansInOrder at ts end → at ≤ end
+end_after at end [] h = h
+end_after at end (t ∷ ts) h = omega (arith, h.0, h.1, end_after t.span.to end ts h.2)
+
+-- each span is inside the text, and isn't empty
+pub span_inside : (at end : ℕ) (ts : List Token) → SpansInOrder at ts end → (i : ℕ) (t : Token) → slice_get ts i ≡ Some t
+    → (at ≤ t.span.from) × (t.span.from < t.span.to) × (t.span.to ≤ end)
+span_inside at end [] h i t is = cc
+span_inside at end (u ∷ ts) h zero t is =
+    let same_token : u ≡ t = cc in
+    subst (λ (v : Token). (at ≤ v.span.from) × (v.span.from < v.span.to) × (v.span.to ≤ end)) same_token (h.0, h.1, end_after u.span.to end ts h.2)
+span_inside at end (u ∷ ts) h (suc i) t is =
+    let r = span_inside u.span.to end ts h.2 i t is in (omega (arith, h.0, h.1, r.0), r.1, r.2)
