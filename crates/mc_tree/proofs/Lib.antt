@@ -1,2 +1,3 @@
 pub mod LexemeRows
 pub mod TokenFacts
+pub mod TokensExist
