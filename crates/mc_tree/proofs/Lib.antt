@@ -1,0 +1,3 @@
+pub mod LexemeRows
+pub mod TokenFacts
+pub mod TokensExist
