@@ -6,3 +6,4 @@ pub mod Meaning
 pub mod Plain
 pub mod Sound
 pub mod Tree
+pub mod Worked
