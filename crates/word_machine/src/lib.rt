@@ -9,6 +9,8 @@ pub mod machine;
 pub mod operands;
 pub mod places;
 pub mod registers;
+#[cfg(test)]
+mod tests;
 pub mod verified;
 
 pub use code::{CellShape, Code, Instr, Slot, cost};
