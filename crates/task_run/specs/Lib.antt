@@ -1,3 +1,4 @@
+pub mod Closing
 pub mod Follows
 pub mod Progress
 pub mod Text

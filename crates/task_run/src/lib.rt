@@ -1,6 +1,7 @@
 //! The run of one task over input lines: its executions, its text and how it ends.
 #![tactic(auto)]
 
+pub mod closing;
 pub mod execute;
 pub mod fault;
 pub mod run;

@@ -9,9 +9,10 @@ ghost use Rattle.task_run.specs.Follows.{RunsAs};
 ghost use Rattle.task_run.specs.Progress.{RunAnswers};
 ghost use Rattle.lines.specs.Lines.{lines_of};
 
+use crate::closing::{finish, send_before_reading, stop_bad, stop_broken};
 use crate::execute::execute;
 use crate::fault::RunFault;
-use crate::text::{write_broken, write_outs, write_task};
+use crate::text::write_outs;
 use crate::width::{in_words, out_words, state_words, zeros};
 use lines::{LineBuf, LineFault, LineReader, Next};
 use mars_base::{Sink, Source};
@@ -51,32 +52,26 @@ pub fn run_lines<C: Cpu, I: Source, O: Sink>(
     let mut state = zeros(alloc, state_words(cells))?;
     let mut reader = LineReader::new(alloc)?;
     let mut buffer = LineBuf::new(alloc)?;
+    let name = task.name.as_slice();
     let mut line = 0u64;
     let mut seen = 0u32;
-    loop {
-        if !reader.holds_line() {
-            buffer.flush(out)?;
+    'lines: loop {
+        if let Err(_fault) = send_before_reading(&reader, &mut buffer, out) {
+            return Err(RunFault::Write);
         }
         match reader.next(input, &mut ins) {
             Ok(Next::Line) => {}
-            Ok(Next::End) => {
-                write_task(&mut buffer, out, task.name.as_slice(), maxt, seen)?;
-                buffer.flush(out)?;
-                return Ok(());
-            }
-            Err(LineFault::Bad(number)) => {
-                buffer.flush(out)?;
-                return Err(RunFault::BadLine(number));
-            }
+            Ok(Next::End) => return finish(&mut buffer, out, name, maxt, seen),
+            Err(LineFault::Bad(number)) => return stop_bad(&mut buffer, out, number),
             Err(LineFault::Read) => return Err(RunFault::Read),
         }
         let Some(cycles) = execute(cpu, task, program, maxt, &mut state, &ins, &mut outs) else {
-            write_broken(&mut buffer, out, line, task.name.as_slice())?;
-            buffer.flush(out)?;
-            return Err(RunFault::Broken);
+            return stop_broken(&mut buffer, out, line, name);
         };
         seen = seen.max(cycles);
         line += 1;
-        write_outs(&mut buffer, out, &outs)?;
+        if let Err(_fault) = write_outs(&mut buffer, out, &outs) {
+            return Err(RunFault::Write);
+        }
     }
 }

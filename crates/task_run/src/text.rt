@@ -1,5 +1,6 @@
 //! The lines that a run writes.
-ghost use Rattle.std.specs.Prelude.{◌≡◌, ◌+◌, ◌*◌, ◌≤◌, ◌++◌, length};
+ghost use Rattle.std.specs.Prelude.{◌≡◌, ◌+◌, ◌*◌, ◌≤◌, ◌++◌, [], length, OnOk};
+ghost use Rattle.std.specs.Fmt.{signed_decimal};
 ghost use Rattle.lines.specs.Gathered.{Writes};
 ghost use Rattle.mars_base.specs.Causes.{HasCause};
 ghost use Rattle.task_run.specs.Text.{tail_text, words_text, out_line, broken_line, task_line};
@@ -8,7 +9,7 @@ use itoa::Buffer;
 use lines::{LineBuf, write_pieces};
 use mars_base::{Sink, SinkFault};
 
-// How many bytes a word takes at most: a minus, ten digits and a blank.
+// How many bytes a word takes at most: a blank, a minus and ten digits.
 const WORD: usize = 12;
 
 /// Writes the line of an instance's outputs.
@@ -21,12 +22,23 @@ pub fn write_outs<O: Sink>(
     ensures bytes { Writes (O.holds out.old) buffer.old (out_line words.now) (O.holds out.new) buffer.new result }
     ensures cause { HasCause (O.faults out.old) (O.faults out.new) result }
 {
-    if buffer.room() <= WORD * words.len() {
-        if let Err(fault) = buffer.send(out) {
-            return Err(fault);
-        }
+    if let Err(fault) = make_room(buffer, out, WORD * words.len() + 1) {
+        return Err(fault);
     }
     append_outs(buffer, words);
+    Ok(())
+}
+
+// Sends what waits where so many bytes don't fit behind it.
+fn make_room<O: Sink>(buffer: &mut LineBuf, out: &mut O, need: usize) -> Result<(), SinkFault>
+    requires { need ≤ 4096 }
+    ensures bytes { Writes (O.holds out.old) buffer.old [] (O.holds out.new) buffer.new result }
+    ensures room { OnOk result (length buffer.new + need ≤ 4096) }
+    ensures cause { HasCause (O.faults out.old) (O.faults out.new) result }
+{
+    if buffer.room() < need {
+        return buffer.flush(out);
+    }
     Ok(())
 }
 
@@ -35,11 +47,21 @@ fn append_outs(buffer: &mut LineBuf, words: &[i32])
     requires { length buffer.old + 12 * length words.now + 1 ≤ 4096 }
     ensures { buffer.new ≡ buffer.old ++ out_line words.now }
 {
-    if let [first, rest @ ..] = words {
-        buffer.number(i64::from(*first));
-        append_tail(buffer, rest);
-    }
+    append_words(buffer, words);
     buffer.text(b"\n");
+}
+
+// Appends words with single blanks between them.
+fn append_words(buffer: &mut LineBuf, words: &[i32])
+    requires { length buffer.old + 12 * length words.now ≤ 4096 }
+    ensures text { buffer.new ≡ buffer.old ++ words_text words.now }
+    ensures room { length buffer.new ≤ length buffer.old + 12 * length words.now }
+{
+    let Some((first, rest)) = words.split_first() else {
+        return;
+    };
+    append_word(buffer, *first);
+    append_tail(buffer, rest);
 }
 
 // Appends a blank and a word, for each.
@@ -50,8 +72,18 @@ fn append_tail(buffer: &mut LineBuf, words: &[i32])
 {
     for word in words {
         buffer.text(b" ");
-        buffer.number(i64::from(*word));
+        append_word(buffer, *word);
     }
+}
+
+// Appends a word in decimal digits.
+fn append_word(buffer: &mut LineBuf, word: i32)
+    requires { length buffer.old + 11 ≤ 4096 }
+    ensures text { buffer.new ≡ buffer.old ++ signed_decimal word }
+    ensures room { length buffer.new ≤ length buffer.old + 11 }
+{
+    let mut digits = Buffer::new();
+    buffer.text(digits.format(word).as_bytes());
 }
 
 /// Writes the line of a broken instance.
