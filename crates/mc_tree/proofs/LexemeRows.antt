@@ -1,10 +1,10 @@
 -- Worked rows: what some words spell.
-use Rattle.std.proofs.Common.{◌≡◌, ◌^◌, List, [], ◌∷◌, Option, Some, None, refl}
+use Rattle.std.proofs.Common.{◌≡◌, ◌^◌, [], ◌∷◌, Some, None, refl}
 use Rattle.std.specs.Prelude.{codes}
 use Rattle.mc_tree.specs.declared.token.Key.TheVariants as K
 use Rattle.mc_tree.specs.declared.token.Sign.TheVariants as S
 use Rattle.mc_tree.specs.declared.token.TokenKind.TheVariants as T
-use Rattle.mc_tree.specs.Lexeme.{Lexeme, Gap, Spelled, Malformed, lexeme_of, word_kind, comment_of}
+use Rattle.mc_tree.specs.Lexeme.{Gap, Spelled, Malformed, lexeme_of, word_kind, comment_of}
 
 -- a keyword, and a name that begins like one
 row_mark : (lexeme_of (codes "mark") ≡ Some (Spelled (T.Key K.Mark))) × (lexeme_of (codes "marker") ≡ Some (Spelled T.Name))

@@ -2,7 +2,6 @@
 use Rattle.std.proofs.Common.{◌≡◌, ℕ, zero, suc, slice_get, ◌+◌, ◌-◌, ◌<◌, ◌≤◌, List, [], ◌∷◌, length, take, drop, arith, Some, None, refl, ap, ◌∙◌, sym, subst}
 use Rattle.std.proofs.lemmas.List.{length-drop}
 use Rattle.mc_tree.specs.declared.token.Token.{Token}
-use Rattle.mc_tree.specs.declared.token.TokenKind.{TokenKind}
 use Rattle.mc_tree.specs.Lexeme.{Lexeme, Gap, Spelled, Malformed, lexeme_of}
 use Rattle.mc_tree.specs.Tokens.{Longest, NothingBegins, TokensFrom, BadFrom, IsTokens, IsBadAt, SpansInOrder, token, text_of}
 use Rattle.mc_tree.specs.Tokens as R

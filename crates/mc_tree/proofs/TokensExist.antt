@@ -1,6 +1,5 @@
 -- Every text has a list of tokens or a bad byte.
-use Rattle.std.proofs.Common.{◌≡◌, ℕ, zero, suc, ◌+◌, ◌-◌, ◌<◌, ◌≤◌, List, [], ◌∷◌, length, take, drop, arith, Option, Some, None, refl, ap, ◌∙◌, sym, subst, ◌⊎◌, inl, inr}
-use Rattle.std.proofs.lemmas.List.{length-drop}
+use Rattle.std.proofs.Common.{◌≡◌, ℕ, zero, suc, ◌+◌, ◌-◌, ◌<◌, ◌≤◌, List, [], ◌∷◌, length, take, drop, arith, Option, Some, None, refl, ◌⊎◌, inl, inr}
 use Rattle.mc_tree.specs.declared.token.Token.{Token}
 use Rattle.mc_tree.specs.Lexeme.{Lexeme, Gap, Spelled, Malformed, lexeme_of}
 use Rattle.mc_tree.specs.Tokens.{Longest, NothingBegins, TokensFrom, BadFrom, IsTokens, IsBadAt, token}
