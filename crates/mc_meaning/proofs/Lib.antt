@@ -3,3 +3,4 @@ mod Params
 mod Sizes
 mod Steps
 mod Calls
+mod Instances
