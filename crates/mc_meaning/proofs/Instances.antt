@@ -1,14 +1,13 @@
 -- An instance, by what its body left.
-use Rattle.std.proofs.Common.{◌≡◌, ℕ, ◌+◌, ◌≤◌, ℤ, pos, List, [], ◌∷◌, ◌++◌, length, take, map, reverse, replicate, Option, Some, None, Bool, true, false, refl, sym, ap, ◌∙◌, arith, append_assoc}
+use Rattle.std.proofs.Common.{◌≡◌, ℕ, ◌+◌, ℤ, pos, List, [], ◌∷◌, ◌++◌, length, take, map, reverse, replicate, Option, Some, None, true, false, refl, sym, ap, ◌∙◌, append_assoc}
 use Rattle.std.specs.Prelude.{is_some}
 use Rattle.std.proofs.lemmas.List.{length-map, replicate-append-replicate}
 use Rattle.std.proofs.Math.Seq.{take-length}
 use Rattle.mc_tree.specs.declared.tree.Cell.{Cell}
 use Rattle.mc_tree.specs.declared.tree.Task.{Task}
 use Rattle.mc_tree.specs.declared.tree.Stmt.{Stmt}
-use Rattle.mc_tree.specs.Tree.{Fn}
 use Rattle.mc_tree.specs.Plain.{plain_func, plain_list, plain_task}
-use Rattle.mc_tree.specs.Meaning.{After, Done, Broken, all_do, run_all, params_at}
+use Rattle.mc_tree.specs.Meaning.{all_do, run_all, params_at}
 use Rattle.mc_tree.specs.Instance.{Gives, Breaks, is_state, is_out, ended, instance_of, words_at_start, words_of}
 use Rattle.mc_meaning.specs.Run.{params_of, calls_of, after_of}
 

@@ -64,7 +64,12 @@ fn push_zeros(words: &mut Vec<i32>, many: usize) -> Result<(), Memory>
 }
 
 // Appends the words of a cell at the start, and answers what is left of the state and of the in words.
-fn start_cell<'a>(words: &mut Vec<i32>, cell: &Cell, state: &'a [i32], ins: &'a [i32]) -> Result<(&'a [i32], &'a [i32]), Memory>
+fn start_cell<'a>(
+    words: &mut Vec<i32>,
+    cell: &Cell,
+    state: &'a [i32],
+    ins: &'a [i32],
+) -> Result<(&'a [i32], &'a [i32]), Memory>
     ensures { IfOk result (λ left. (rest : List ℤ → List ℤ → List ℤ) → words.new.items ++ rest left.0.now left.1.now ≡ words.old.items ++ cell_at_start cell.now.role cell.now.width rest state.now ins.now) }
 {
     let width = usize::from(cell.width);
@@ -114,7 +119,12 @@ fn is_role(wanted: Role, role: Role) -> bool
 }
 
 // Appends the first words of a list where they are wanted, and answers the others.
-fn keep_words<'a>(list: &mut Vec<i32>, wanted: bool, from: &'a [i32], many: usize) -> Result<&'a [i32], Memory>
+fn keep_words<'a>(
+    list: &mut Vec<i32>,
+    wanted: bool,
+    from: &'a [i32],
+    many: usize,
+) -> Result<&'a [i32], Memory>
     ensures kept { OnOk result (list.new.items ≡ list.old.items ++ (if wanted then take many from.now else [])) }
     ensures rest { IfOk result (λ rest. rest.now ≡ drop many from.now) }
 {

@@ -26,14 +26,26 @@ fn one(alloc: Global, stmt: Stmt) -> Result<Items<Stmt>, Memory> {
     Ok(stmts)
 }
 
-fn task(alloc: Global, roles: &[Role], funcs: Items<Func>, body: Items<Stmt>, counters: u16) -> Result<Task, Memory> {
+fn task(
+    alloc: Global,
+    roles: &[Role],
+    funcs: Items<Func>,
+    body: Items<Stmt>,
+    counters: u16,
+) -> Result<Task, Memory> {
     let mut cells = Items::new(alloc);
     let mut place = 0;
     for role in roles {
         cells.push(cell(alloc, *role, place)?)?;
         place = place.wrapping_add(1);
     }
-    Ok(Task { name: Text::from_slice(alloc, b"t".as_slice())?, cells, funcs, body, counters })
+    Ok(Task {
+        name: Text::from_slice(alloc, b"t".as_slice())?,
+        cells,
+        funcs,
+        body,
+        counters,
+    })
 }
 
 // The first out word; none where the instance breaks.
@@ -47,10 +59,27 @@ fn first_out(alloc: Global, task: &Task, input: i32) -> Result<Option<i32>, Memo
 // task count; in n; out y; body { y = 0; while max 3 (y < n) { y = y + 1; } }
 fn count(alloc: Global, input: i32) -> Result<Option<i32>, Memory> {
     let more = pair(alloc, BinOp::Add, Expr::Cell(1), Expr::Number(1))?;
-    let turn = one(alloc, Stmt::Set { cell: 1, value: more })?;
+    let turn = one(
+        alloc,
+        Stmt::Set {
+            cell: 1,
+            value: more,
+        },
+    )?;
     let test = pair(alloc, BinOp::Lt, Expr::Cell(1), Expr::Cell(0))?;
-    let mut body = one(alloc, Stmt::Set { cell: 1, value: Expr::Number(0) })?;
-    body.push(Stmt::While { counter: 0, bound: 3, test, body: turn })?;
+    let mut body = one(
+        alloc,
+        Stmt::Set {
+            cell: 1,
+            value: Expr::Number(0),
+        },
+    )?;
+    body.push(Stmt::While {
+        counter: 0,
+        bound: 3,
+        test,
+        body: turn,
+    })?;
     let count = task(alloc, &[Role::In, Role::Out], Items::new(alloc), body, 1)?;
     first_out(alloc, &count, input)
 }
@@ -61,14 +90,34 @@ fn twice(alloc: Global, input: i32) -> Result<Option<i32>, Memory> {
     let mut params = Items::new(alloc);
     params.push(2)?;
     let mut funcs = Items::new(alloc);
-    funcs.push(Func { params, body: one(alloc, Stmt::Set { cell: 3, value: more })?, answer: Expr::Cell(3) })?;
+    funcs.push(Func {
+        params,
+        body: one(
+            alloc,
+            Stmt::Set {
+                cell: 3,
+                value: more,
+            },
+        )?,
+        answer: Expr::Cell(3),
+    })?;
     let mut body = Items::new(alloc);
     for _ in 0..2 {
         let mut args = Items::new(alloc);
         args.push(Expr::Cell(0))?;
-        body.push(Stmt::Call { cell: 1, func: 0, args })?;
+        body.push(Stmt::Call {
+            cell: 1,
+            func: 0,
+            args,
+        })?;
     }
-    let twice = task(alloc, &[Role::In, Role::Out, Role::Local, Role::Local], funcs, body, 0)?;
+    let twice = task(
+        alloc,
+        &[Role::In, Role::Out, Role::Local, Role::Local],
+        funcs,
+        body,
+        0,
+    )?;
     first_out(alloc, &twice, input)
 }
 

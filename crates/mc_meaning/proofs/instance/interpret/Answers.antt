@@ -1,4 +1,4 @@
-use Rattle.std.proofs.Common.{◌≡◌, ◌∙◌}
+use Rattle.std.proofs.Common.{◌∙◌}
 use Rattle.mc_meaning.proofs.Instances.{instance_is}
 use Rattle.mc_meaning.proofs.instance.interpret.Goals as goal
 
