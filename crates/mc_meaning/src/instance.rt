@@ -21,7 +21,8 @@ pub enum Outcome {
 }
 
 /// One instance of a checked task, from the words of its state cells and of its in cells, each in the
-/// order of the cells and as many as those cells have together.
+/// order of the cells and as many as those cells have together. `Memory` comes only where there is none.
+/// The language is this project's own.
 pub fn interpret(alloc: Global, task: &Task, state: &[i32], ins: &[i32]) -> Result<Outcome, Memory>
     ensures { IfOk result (λ outcome. plain_outcome outcome ≡ instance_of (plain_task task.now) state.now ins.now) }
 {
