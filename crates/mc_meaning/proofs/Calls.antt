@@ -1,5 +1,5 @@
 -- What a call of a function does: its statements, over the functions before it.
-use Rattle.std.proofs.Common.{◌≡◌, ℕ, zero, suc, ◌+◌, ◌<◌, ◌≤◌, ℤ, List, [], ◌∷◌, ◌++◌, length, take, map, reverse, min, Option, Some, None, Bool, true, false, refl, sym, ap, ◌∙◌, subst, arith, append_assoc, length-append}
+use Rattle.std.proofs.Common.{◌≡◌, ℕ, zero, suc, ◌<◌, ◌≤◌, ℤ, List, [], ◌∷◌, ◌++◌, length, take, map, reverse, Option, Some, None, Bool, true, false, refl, sym, ap, ◌∙◌, arith, append_assoc, length-append}
 use Rattle.std.specs.Prelude.{nat_eq, if◌then◌else◌, slice_get}
 use Rattle.std.proofs.lemmas.Bool.{eqb-true, eqb-false}
 use Rattle.std.proofs.lemmas.List.{reverse-append, length-reverse, length-take, length-map}
@@ -9,7 +9,7 @@ use Rattle.mc_tree.specs.declared.tree.Task.{Task}
 use Rattle.mc_tree.specs.declared.tree.Stmt.{Stmt}
 use Rattle.mc_tree.specs.Tree.{Fn}
 use Rattle.mc_tree.specs.Plain.{place_in, plain_expr, plain_list, plain_func}
-use Rattle.mc_tree.specs.Meaning.{Back, Fails, all_do, set_all, answer_of, run_fn, run_all, params_at}
+use Rattle.mc_tree.specs.Meaning.{Fails, all_do, set_all, answer_of, run_fn, run_all, params_at}
 use Rattle.mc_meaning.specs.Run.{params_of, calls_of, after_of}
 use Rattle.mc_meaning.proofs.Sizes.{get_map}
 
@@ -61,7 +61,7 @@ calls_known t known g f cells lt e =
     let pf = plain_func t.cells f in
     let s = split fs known g pf lt (get_map (plain_func t.cells) t.funcs g f e) in
     let order : reverse (take known fs) ≡ reverse s.0 ++ pf ∷ reverse (take g fs) =
-        ap reverse s.1 ∙ reverse-append (take g fs) (pf ∷ s.0) ∙ ap (λ l. l ++ reverse (take g fs)) (reverse-append (pf ∷ []) s.0) ∙ append_assoc (reverse s.0) (pf ∷ []) (reverse (take g fs)) in
+    ap reverse s.1 ∙ reverse-append (take g fs) (pf ∷ s.0) ∙ ap (λ l. l ++ reverse (take g fs)) (reverse-append (pf ∷ []) s.0) ∙ append_assoc (reverse s.0) (pf ∷ []) (reverse (take g fs)) in
     let n : length (reverse (take g fs)) ≡ g = length-reverse (take g fs) ∙ s.2 in
     ap (λ l. run_all (params_of t) l g cells) order
     ∙ ap (λ k. run_all (params_of t) (reverse s.0 ++ pf ∷ reverse (take g fs)) k cells) (sym n)
@@ -92,6 +92,6 @@ pub call_gives : (t : Task) (known g : ℕ) (f : Func) (args words set ds : List
     → answer_of (plain_expr t.cells f.answer) (after_of ds o) ≡ calls_of t known g (set_all (params_of t g) args words)
 call_gives t known g f args words set ds cells1 params1 body1 o lt e ec ep eb es h =
     let ps : set_all (params_of t g) args words ≡ set =
-        ap (λ p. set_all p args words) (params_known t g f (sym e)) ∙ sym (es ∙ ap (λ cs. set_all (map (place_in cs) params1) args words) ec ∙ ap (λ p. set_all (map (place_in t.cells) p) args words) ep) in
+    ap (λ p. set_all p args words) (params_known t g f (sym e)) ∙ sym (es ∙ ap (λ cs. set_all (map (place_in cs) params1) args words) ec ∙ ap (λ p. set_all (map (place_in t.cells) p) args words) ep) in
     ap (answer_of (plain_expr t.cells f.answer)) (h ∙ ap (λ b. all_do (params_of t) (calls_of t g) (plain_list t.cells b) set 0) eb)
     ∙ sym (ap (calls_of t known g) ps ∙ calls_known t known g f set lt (sym e))

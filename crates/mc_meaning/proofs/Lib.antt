@@ -1,5 +1,5 @@
-mod Values
+mod Calls
+mod Instances
 mod Params
 mod Sizes
 mod Steps
-mod Calls

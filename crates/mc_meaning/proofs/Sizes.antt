@@ -1,9 +1,9 @@
 -- How large a part of a tree is: what falls with each call, since a called function stands before its caller.
-use Rattle.std.proofs.Common.{◌≡◌, ℕ, zero, suc, ◌+◌, ◌<◌, ◌≤◌, List, [], ◌∷◌, length, take, map, Option, Some, None, refl, sym, ap, ◌∙◌, arith}
+use Rattle.std.proofs.Common.{◌≡◌, ℕ, zero, suc, ◌+◌, ◌<◌, List, [], ◌∷◌, take, map, Some, ap, arith}
 use Rattle.std.specs.Prelude.{slice_get}
 use Rattle.mc_tree.specs.declared.tree.Task.{Task}
 use Rattle.mc_tree.specs.declared.tree.Func.{Func}
-use Rattle.mc_tree.specs.Tree.{Ex, St, Assign, AssignAt, Invoke, When, Choice, Loop, Scoped, Count, Series, Bl, Nil, Then, Ls, NoLoop, OneLoop, Fn}
+use Rattle.mc_tree.specs.Tree.{St, Assign, AssignAt, Invoke, When, Choice, Loop, Scoped, Count, Series, Bl, Nil, Then, Ls, NoLoop, OneLoop, Fn}
 use Rattle.mc_tree.specs.Plain.{plain_func}
 
 abbrev mutual

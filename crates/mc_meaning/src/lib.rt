@@ -2,6 +2,12 @@
 //! meaning that it follows.
 #![tactic(auto)]
 
+mod instance;
 mod place;
 mod statement;
 mod value;
+
+pub use instance::{Outcome, interpret};
+
+#[cfg(test)]
+mod tests;

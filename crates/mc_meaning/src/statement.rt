@@ -34,7 +34,13 @@ fn count_up_to(count: u32, bound: u16) -> Option<u32>
 }
 
 // Sets a cell of one word, where there is a word to set.
-fn set_to(cells: &[Cell], words: &mut [i32], cell: u16, word: Option<i32>, count: u32) -> Option<u32>
+fn set_to(
+    cells: &[Cell],
+    words: &mut [i32],
+    cell: u16,
+    word: Option<i32>,
+    count: u32,
+) -> Option<u32>
     ensures { after_of words.new result ≡ with_value word (λ v. Done (slice_set words.old (place_in cells.now cell) v) count) }
 {
     let word = word?;
@@ -43,7 +49,14 @@ fn set_to(cells: &[Cell], words: &mut [i32], cell: u16, word: Option<i32>, count
 }
 
 // Sets a word of an array: the index comes first, then the value, then the test of its range.
-fn set_at(cells: &[Cell], words: &mut [i32], cell: u16, index: &Expr, expr: &Expr, count: u32) -> Option<u32>
+fn set_at(
+    cells: &[Cell],
+    words: &mut [i32],
+    cell: u16,
+    index: &Expr,
+    expr: &Expr,
+    count: u32,
+) -> Option<u32>
     ensures { after_of words.new result ≡ with_value (value_of (plain_expr cells.now index.now) words.old) (λ x. with_value (value_of (plain_expr cells.now expr.now) words.old) (λ v. set_elem (place_of (place_in cells.now cell) (width_in cells.now cell) x) words.old v count)) }
 {
     let index = value(cells, words, index)?;
@@ -65,7 +78,14 @@ fn back(inner: Option<u32>, count: u32) -> Option<u32>
 
 // What a call of a function leaves, and its answer; the functions below `known` may be called.
 #[cycle(run)]
-fn call(alloc: Global, task: &Task, known: usize, words: &mut [i32], func: u8, args: &[i32]) -> Result<Option<i32>, Memory>
+fn call(
+    alloc: Global,
+    task: &Task,
+    known: usize,
+    words: &mut [i32],
+    func: u8,
+    args: &[i32],
+) -> Result<Option<i32>, Memory>
     ensures { IfOk result (λ o. answered words.new o ≡ calls_of task.now known func (set_all (params_of task.now func) args.now words.old)) }
 {
     let func = usize::from(func);
@@ -75,7 +95,12 @@ fn call(alloc: Global, task: &Task, known: usize, words: &mut [i32], func: u8, a
     let Some(function) = task.funcs.get(func) else {
         return Ok(None);
     };
-    set_params(task.cells.as_slice(), function.params.as_slice(), args, words);
+    set_params(
+        task.cells.as_slice(),
+        function.params.as_slice(),
+        args,
+        words,
+    );
     if run_block(alloc, task, func, words, 0, function.body.as_slice())?.is_none() {
         return Ok(None);
     }
@@ -84,7 +109,14 @@ fn call(alloc: Global, task: &Task, known: usize, words: &mut [i32], func: u8, a
 
 // What statements leave, in order: the count of the innermost scope, or none where they break.
 #[cycle(run)]
-pub fn run_block(alloc: Global, task: &Task, known: usize, words: &mut [i32], count: u32, stmts: &[Stmt]) -> Result<Option<u32>, Memory>
+pub fn run_block(
+    alloc: Global,
+    task: &Task,
+    known: usize,
+    words: &mut [i32],
+    count: u32,
+    stmts: &[Stmt],
+) -> Result<Option<u32>, Memory>
     ensures { IfOk result (λ o. after_of words.new o ≡ all_do (params_of task.now) (calls_of task.now known) (plain_list task.now.cells stmts.now) words.old count) }
 {
     let mut count = count;
@@ -100,7 +132,14 @@ pub fn run_block(alloc: Global, task: &Task, known: usize, words: &mut [i32], co
 // What a statement leaves: the count of the innermost scope, or none where it breaks.
 #[cycle(run)]
 #[tactic(auto, using(mc_tree::proofs::Plain::plain_rules))]
-fn run_stmt(alloc: Global, task: &Task, known: usize, words: &mut [i32], count: u32, stmt: &Stmt) -> Result<Option<u32>, Memory>
+fn run_stmt(
+    alloc: Global,
+    task: &Task,
+    known: usize,
+    words: &mut [i32],
+    count: u32,
+    stmt: &Stmt,
+) -> Result<Option<u32>, Memory>
     ensures { IfOk result (λ o. after_of words.new o ≡ does (params_of task.now) (calls_of task.now known) (plain_stmt task.now.cells stmt.now) words.old count) }
 {
     let cells = task.cells.as_slice();
@@ -109,7 +148,11 @@ fn run_stmt(alloc: Global, task: &Task, known: usize, words: &mut [i32], count: 
             let word = value(cells, words, expr);
             Ok(set_to(cells, words, *cell, word, count))
         }
-        Stmt::SetAt { cell, index, value: expr } => Ok(set_at(cells, words, *cell, index, expr, count)),
+        Stmt::SetAt {
+            cell,
+            index,
+            value: expr,
+        } => Ok(set_at(cells, words, *cell, index, expr, count)),
         Stmt::Call { cell, func, args } => {
             let Some(args) = values(alloc, cells, words, args.as_slice())? else {
                 return Ok(None);
@@ -129,13 +172,35 @@ fn run_stmt(alloc: Global, task: &Task, known: usize, words: &mut [i32], count: 
                 Some(other) => run_block(alloc, task, known, words, count, other.as_slice()),
             }
         }
-        Stmt::While { counter: _, bound, test, body } => run_loop(alloc, task, known, words, count, *bound, test, body.as_slice()),
-        Stmt::Scope { counter: _, bound: _, body } => {
+        Stmt::While {
+            counter: _,
+            bound,
+            test,
+            body,
+        } => run_loop(
+            alloc,
+            task,
+            known,
+            words,
+            count,
+            *bound,
+            test,
+            body.as_slice(),
+        ),
+        Stmt::Scope {
+            counter: _,
+            bound: _,
+            body,
+        } => {
             let inner = run_block(alloc, task, known, words, 0, body.as_slice())?;
             Ok(back(inner, count))
         }
         Stmt::Mark { counter: _, bound } => Ok(count_up_to(count, *bound)),
-        Stmt::Sequence { counter: _, bound, loops } => {
+        Stmt::Sequence {
+            counter: _,
+            bound,
+            loops,
+        } => {
             let inner = run_series(alloc, task, known, words, *bound, loops.as_slice())?;
             Ok(back(inner, count))
         }
@@ -144,7 +209,16 @@ fn run_stmt(alloc: Global, task: &Task, known: usize, words: &mut [i32], count: 
 
 // A loop of at most `bound` turns.
 #[cycle(run)]
-fn run_loop(alloc: Global, task: &Task, known: usize, words: &mut [i32], count: u32, bound: u16, test: &Expr, body: &[Stmt]) -> Result<Option<u32>, Memory>
+fn run_loop(
+    alloc: Global,
+    task: &Task,
+    known: usize,
+    words: &mut [i32],
+    count: u32,
+    bound: u16,
+    test: &Expr,
+    body: &[Stmt],
+) -> Result<Option<u32>, Memory>
     ensures { IfOk result (λ o. after_of words.new o ≡ turns bound (value_of (plain_expr task.now.cells test.now)) (all_do (params_of task.now) (calls_of task.now known) (plain_list task.now.cells body.now)) words.old count) }
 {
     let mut count = count;
@@ -169,7 +243,17 @@ fn run_loop(alloc: Global, task: &Task, known: usize, words: &mut [i32], count: 
 
 // A loop of a sequence whose turns so far are `total`, and at most `most`.
 #[cycle(run)]
-fn run_series_loop(alloc: Global, task: &Task, known: usize, words: &mut [i32], total: u32, most: u16, bound: u16, test: &Expr, body: &[Stmt]) -> Result<Option<u32>, Memory>
+fn run_series_loop(
+    alloc: Global,
+    task: &Task,
+    known: usize,
+    words: &mut [i32],
+    total: u32,
+    most: u16,
+    bound: u16,
+    test: &Expr,
+    body: &[Stmt],
+) -> Result<Option<u32>, Memory>
     ensures { IfOk result (λ o. after_of words.new o ≡ series_turns bound most (value_of (plain_expr task.now.cells test.now)) (λ ds. all_do (params_of task.now) (calls_of task.now known) (plain_list task.now.cells body.now) ds 0) words.old total) }
 {
     let mut total = total;
@@ -198,19 +282,51 @@ fn run_series_loop(alloc: Global, task: &Task, known: usize, words: &mut [i32], 
 // One loop of a sequence; nothing but loops stands in one.
 #[cycle(run)]
 #[tactic(auto, using(mc_tree::proofs::Plain::plain_rules))]
-fn run_series_part(alloc: Global, task: &Task, known: usize, words: &mut [i32], total: u32, most: u16, stmt: &Stmt) -> Result<Option<u32>, Memory>
+fn run_series_part(
+    alloc: Global,
+    task: &Task,
+    known: usize,
+    words: &mut [i32],
+    total: u32,
+    most: u16,
+    stmt: &Stmt,
+) -> Result<Option<u32>, Memory>
     ensures { IfOk result (λ o. after_of words.new o ≡ series_do (params_of task.now) (calls_of task.now known) most (loop_before (plain_stmt task.now.cells stmt.now) NoLoop) words.old total) }
 {
     match stmt {
-        Stmt::While { counter: _, bound, test, body } => run_series_loop(alloc, task, known, words, total, most, *bound, test, body.as_slice()),
-        Stmt::Set { .. } | Stmt::SetAt { .. } | Stmt::Call { .. } | Stmt::If { .. } => Ok(Some(total)),
+        Stmt::While {
+            counter: _,
+            bound,
+            test,
+            body,
+        } => run_series_loop(
+            alloc,
+            task,
+            known,
+            words,
+            total,
+            most,
+            *bound,
+            test,
+            body.as_slice(),
+        ),
+        Stmt::Set { .. } | Stmt::SetAt { .. } | Stmt::Call { .. } | Stmt::If { .. } => Ok(Some(
+            total,
+        )),
         Stmt::Scope { .. } | Stmt::Mark { .. } | Stmt::Sequence { .. } => Ok(Some(total)),
     }
 }
 
 // The loops of a sequence of at most `most` turns together.
 #[cycle(run)]
-fn run_series(alloc: Global, task: &Task, known: usize, words: &mut [i32], most: u16, loops: &[Stmt]) -> Result<Option<u32>, Memory>
+fn run_series(
+    alloc: Global,
+    task: &Task,
+    known: usize,
+    words: &mut [i32],
+    most: u16,
+    loops: &[Stmt],
+) -> Result<Option<u32>, Memory>
     ensures { IfOk result (λ o. after_of words.new o ≡ series_do (params_of task.now) (calls_of task.now known) most (plain_loops task.now.cells loops.now) words.old 0) }
 {
     let mut total = 0;

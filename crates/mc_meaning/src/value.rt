@@ -43,7 +43,12 @@ fn joined(op: BinOp, left: Option<i32>, right: Option<i32>) -> Option<i32>
 }
 
 // The words of arguments, left to right; none where one breaks.
-pub fn values(alloc: Global, cells: &[Cell], words: &[i32], args: &[Expr]) -> Result<Option<Vec<i32>>, Memory>
+pub fn values(
+    alloc: Global,
+    cells: &[Cell],
+    words: &[i32],
+    args: &[Expr],
+) -> Result<Option<Vec<i32>>, Memory>
     ensures { IfOk result (λ o. option_map (λ v. v.items) o ≡ values_of (plain_args cells.now args.now) words.now) }
 {
     let mut list = Vec::new(alloc);
