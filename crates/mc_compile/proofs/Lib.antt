@@ -1,4 +1,7 @@
 pub mod Costs
+pub mod Heights
 pub mod Lengths
 pub mod Placed
 mod Rows
+pub mod TypedParts
+pub mod TypedStatements
