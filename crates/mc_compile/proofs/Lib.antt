@@ -3,5 +3,8 @@ pub mod Heights
 pub mod Lengths
 pub mod Placed
 mod Rows
+pub mod Shapes
+pub mod Starts
 pub mod TypedParts
 pub mod TypedStatements
+pub mod TypedTask

@@ -129,9 +129,9 @@ module _ (code : Code) (cells : List Cell) (lo hi r : ℕ) (routine : IsRoutine 
   first_height p s here above below is =
       ⊎_elim (λ x. absurd (routine.inner p x below is))
       (λ x. let e : lo ≡ p = omega arith in
-          let z = subst (λ n. height_at code.instrs n ≡ Some 0) e routine.zero in
-          let y = ap (option_map (λ (x : Slot). x.height)) here in
-          let w : Some s.height ≡ Some 0 = sym y ∙ z in cc)
+      let z = subst (λ n. height_at code.instrs n ≡ Some 0) e routine.zero in
+      let y = ap (option_map (λ (x : Slot). x.height)) here in
+      let w : Some s.height ≡ Some 0 = sym y ∙ z in cc)
       (cases_lt lo p)
 
   -- the last instruction of a routine is another one

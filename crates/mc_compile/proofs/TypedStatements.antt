@@ -17,7 +17,7 @@ use Rattle.mc_compile.proofs.Heights.{up_e, up_a, up_stores, height_here, begins
 use Rattle.mc_compile.proofs.TypedParts.{IsRoutine, IsCallable, TypedIn, typed_join, typed_none, args_low, step_typed, follows, lands, typed_e, typed_a, typed_stores}
 
 module _ (code : Code) (cells : List Cell) (lo hi r : ℕ) (routine : IsRoutine code lo hi r) (fits : (p n : ℕ) → IsCell cells p n → p + n ≤ code.places) where
-  test : (t : Ex) (p q : ℕ) → CodedE code.instrs 0 p t q → SoundTest cells t → lo ≤ p → q < hi → height_at code.instrs q ≡ Some 1 → TypedIn code p q
+  pub test : (t : Ex) (p q : ℕ) → CodedE code.instrs 0 p t q → SoundTest cells t → lo ≤ p → q < hi → height_at code.instrs q ≡ Some 1 → TypedIn code p q
   test t p q c sound above below at =
       typed_e code cells lo hi r routine fits t 0 p q c sound.0 (omega (arith, sound.1)) above below (at ∙ ap Some (let x : 1 ≡ 0 + 1 = omega arith in x))
 
@@ -82,8 +82,17 @@ module _ (code : Code) (cells : List Cell) (lo hi r : ℕ) (routine : IsRoutine 
         (typed_join code c.0 c.1 q
         (typed_stores code cells lo hi r routine fits (params g) 0 c.0 c.1 c.4 called.are_cells (omega arith) (omega arith) (omega arith) (height_here code.instrs c.1 c.2 _ c.5))
         (typed_join code c.1 c.2 q
-        (step_typed code cells lo hi r routine fits c.1 c.2 _ c.5 (omega arith) (omega arith) (record { height_fits = omega arith; operands = omega arith; room = omega arith; next = λ x. absurd x; jump = tt; place = tt; counter = tt;
-          call = record { before = refl; after = follows code cells lo hi r routine fits c.1 c.2 1 1 j5 (height_here code.instrs c.2 q _ c.6) refl; start = called.contained; not_first = called.not_first; earlier = λ x. let e = routine.number c.1 (omega arith) (omega arith) in let y = called.earlier (omega arith) in omega arith }; ends = tt }))
+        (step_typed code cells lo hi r routine fits c.1 c.2 _ c.5 (omega arith) (omega arith) (record {
+          height_fits = omega arith;
+          operands = omega arith;
+          room = omega arith;
+          next = λ x. absurd x;
+          jump = tt;
+          place = tt;
+          counter = tt;
+          call = record { before = refl; after = follows code cells lo hi r routine fits c.1 c.2 1 1 j5 (height_here code.instrs c.2 q _ c.6) refl; start = called.contained; not_first = called.not_first; earlier = λ x. let e = routine.number c.1 (omega arith) (omega arith) in let y = called.earlier (omega arith) in omega arith };
+          ends = tt;
+        }))
         (store code cells lo hi r routine fits c.2 q a c.6 sound.0 (omega arith) below at)))
     typed_s sc kb c0 c1 (When t b) p q c sound n few sfew above below at =
         let u1 = up_e code.instrs t 0 p c.0 c.2 in
