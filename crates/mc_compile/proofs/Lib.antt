@@ -8,3 +8,4 @@ pub mod Starts
 pub mod TypedParts
 pub mod TypedStatements
 pub mod TypedTask
+pub mod Words
