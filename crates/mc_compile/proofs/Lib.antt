@@ -9,3 +9,4 @@ pub mod TypedParts
 pub mod TypedStatements
 pub mod TypedTask
 pub mod Words
+pub mod Expressions
