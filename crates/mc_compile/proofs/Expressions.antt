@@ -114,7 +114,7 @@ module _ (instrs : List Slot) (rs : List ℕ) where
   left_word two.And x = unary_of one.Not x
   left_word _ x = x
 
-  same_place : (p q : ℕ) (st ws : List ℤ) (ks : List ℕ) → p ≡ q → Leads instrs (here p st ws ks) (here q st ws ks)
+  pub same_place : (p q : ℕ) (st ws : List ℤ) (ks : List ℕ) → p ≡ q → Leads instrs (here p st ws ks) (here q st ws ks)
   same_place p q st ws ks e = record { by = λ o r. subst (λ n. Run instrs (here n st ws ks) o) (sym e) r }
 
   between_run : (op : BinOp) (h p q : ℕ) (x : ℤ) (st ws : List ℤ) (ks : List ℕ) → HasAll instrs p (between op h) q → Leads instrs (here p (x ∷ st) ws ks) (here q (left_word op x ∷ st) ws ks)

@@ -10,3 +10,5 @@ pub mod TypedStatements
 pub mod TypedTask
 pub mod Words
 pub mod Expressions
+pub mod Counts
+pub mod Statements
