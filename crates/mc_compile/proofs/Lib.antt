@@ -12,3 +12,4 @@ pub mod Words
 pub mod Expressions
 pub mod Counts
 pub mod Statements
+pub mod Functions
