@@ -1,5 +1,5 @@
 -- The code of an expression puts its word onto the stack, or breaks where it has none.
-use Rattle.std.proofs.Common.{◌≡◌, ℕ, zero, suc, ◌+◌, ◌<◌, ◌≤◌, Bool, true, false, ℤ, List, [], ◌∷◌, length, Option, Some, None, refl, sym, ap, ◌∙◌, subst, arith}
+use Rattle.std.proofs.Common.{◌≡◌, ℕ, ◌+◌, ◌<◌, ◌≤◌, Bool, true, false, ℤ, List, [], ◌∷◌, length, Option, Some, None, refl, sym, ap, ◌∙◌, subst, arith}
 use Rattle.std.specs.Prelude.{pos, negsuc, not, int_lt, int_le, nat_lt, if◌then◌else◌, slice_get, slice_set, All}
 use Rattle.std.specs.Int.{w32, int_bit_or}
 use Rattle.std.specs.Option.{option_map}
@@ -13,17 +13,17 @@ use Rattle.mars_base.specs.declared.word.BinOp.TheVariants as two
 use Rattle.mars_base.specs.declared.word.UnOp.{UnOp}
 use Rattle.mars_base.specs.declared.word.UnOp.TheVariants as one
 use Rattle.mars_base.specs.Store.{or_zero, word_at, place_of}
-use Rattle.mars_base.specs.Word.{truth_of, is_zero, binary_of, unary_of}
+use Rattle.mars_base.specs.Word.{truth_of, binary_of, unary_of}
 use Rattle.mc_tree.specs.declared.tree.Cell.{Cell}
 use Rattle.mc_tree.specs.Tree.{Ex, Num, Var, Elem, Un, Bin}
 use Rattle.mc_tree.specs.Meaning.{then_word, elem_at, both, value_of}
 use Rattle.mc_tree.specs.Sound.{IsCell, SoundE}
-use Rattle.word_machine.specs.Action.{Action, Combines, Changes, action_of}
-use Rattle.word_machine.specs.Runs.{Out, Halted, Broken, Run, ends, breaks, goes}
-use Rattle.word_machine.specs.State.{State, at, Next, Goes, Ends, Fails, Stuck, found, gives}
-use Rattle.word_machine.specs.Step.{act, instr_at, does, step}
+use Rattle.word_machine.specs.Action.{Combines, Changes, action_of}
+use Rattle.word_machine.specs.Runs.{Out, Broken, Run, breaks, goes}
+use Rattle.word_machine.specs.State.{State, at, Goes, found, gives}
+use Rattle.word_machine.specs.Step.{act, does, step}
 use Rattle.word_machine.specs.declared.code.Instr.{Instr}
-use Rattle.word_machine.specs.declared.code.Instr.TheVariants.{Push, Load, LoadX, Add, Sub, Mul, Div, Rem, And, Or, Xor, Shl, Shr, Eq, Lt, Le, Neg, Not, Inv}
+use Rattle.word_machine.specs.declared.code.Instr.TheVariants.{Add, Sub, Mul, Div, Rem, And, Or, Xor, Shl, Shr, Eq, Lt, Le, Neg, Not, Inv}
 use Rattle.word_machine.specs.declared.code.Slot.{Slot}
 use Rattle.mc_compile.specs.Translate.{slot, unary_instr, between, negated, joined}
 use Rattle.mc_compile.specs.Coded.{Has, HasAll, CodedE}

@@ -1,24 +1,21 @@
 -- The code of each function comes back with what the function answers.
-use Rattle.std.proofs.Common.{◌≡◌, ◌≢◌, ◌⊎◌, inl, inr, ℕ, zero, suc, ◌+◌, ◌<◌, ◌≤◌, Bool, true, false, ℤ, List, [], ◌∷◌, length, Option, Some, None, refl, sym, ap, ◌∙◌, subst, arith}
+use Rattle.std.proofs.Common.{◌≡◌, inl, ℕ, suc, ◌+◌, ◌<◌, ◌≤◌, Bool, true, false, ℤ, List, [], ◌∷◌, length, Option, Some, None, refl, sym, ap, ◌∙◌, subst, arith}
 use Rattle.std.specs.Prelude.{slice_get, slice_index, nat_eq, if◌then◌else◌, All}
 use Rattle.std.proofs.lemmas.Bool.{eqb-true, eqb-false}
 use mathlib.Core.List.{reverse_aux}
 use Rattle.mc_tree.specs.declared.tree.Cell.{Cell}
-use Rattle.mc_tree.specs.Tree.{Ex, Bl, Fn}
+use Rattle.mc_tree.specs.Tree.{Fn}
 use Rattle.mc_tree.specs.Counters.{CountedB, CountedF}
 use Rattle.mc_tree.specs.Meaning.{After, Done, Broken, Back, Answers, Fails, value_of, all_do, answered, answer_of, run_fn, run_all}
-use Rattle.mc_tree.specs.Sound.{IsCell, SoundE, SoundTest, SoundB}
+use Rattle.mc_tree.specs.Sound.{IsCell}
 use Rattle.mc_tree.proofs.Checked.{FnSound, counted_up_b}
-use Rattle.word_machine.specs.Runs.{Out, Halted, Broken as Broke, Run, ends, breaks, goes}
+use Rattle.word_machine.specs.Runs.{Broken as Broke, goes}
 use Rattle.word_machine.specs.State.{State, at}
-use Rattle.word_machine.specs.declared.code.Instr.TheVariants.{Ret}
 use Rattle.word_machine.specs.declared.code.Slot.{Slot}
-use Rattle.mc_compile.specs.Translate.{slot}
-use Rattle.mc_compile.specs.Coded.{Has, CodedE, CodedB, CodedF, CodedFs}
-use Rattle.mc_compile.proofs.Counts.{Keeps, KeepsFrom}
+use Rattle.mc_compile.specs.Coded.{CodedF, CodedFs}
+use Rattle.mc_compile.proofs.Counts.{Keeps}
 use Rattle.mc_compile.proofs.Expressions.{AreWords, Leads, on, Gives, one_step, expr_runs}
 use Rattle.mc_compile.proofs.Statements.{Returns, AreGood, Follows, runs_b}
-use Rattle.mc_compile.proofs.Words.{IsWord}
 
 module _ (instrs : List Slot) (cells : List Cell) (n : ℕ) (fits : (p w : ℕ) → IsCell cells p w → p + w ≤ n) (params : ℕ → List ℕ) (starts : ℕ → ℕ) where
   -- what keeps the counters from lo on keeps those from hi on

@@ -1,13 +1,12 @@
 -- The sizes are the lengths.
-use Rattle.std.proofs.Common.{◌≡◌, ℕ, ◌+◌, List, [], ◌∷◌, ◌++◌, length, refl, arith, length-append}
+use Rattle.std.proofs.Common.{◌≡◌, ℕ, ◌+◌, List, [], ◌∷◌, length, refl, arith, length-append}
 use Rattle.mars_base.specs.declared.word.BinOp.{BinOp}
 use Rattle.mars_base.specs.declared.word.BinOp.TheVariants.{Or, And, BitOr, BitXor, BitAnd, Eq, Ne, Lt, Le, Gt, Ge, Shl, Shr, Add, Sub, Mul, Div, Rem}
 use Rattle.mc_tree.specs.Tree.{Ex, Num, Var, Elem, Un, Bin, St, Assign, AssignAt, Invoke, When, Choice, Loop, Scoped, Count, Series, Bl, Nil, Then, Ls, NoLoop, OneLoop, Fn, Tree}
 use Rattle.mc_tree.specs.Meaning.{params_at}
 use Rattle.std.specs.Prelude.{slice_index}
-use Rattle.word_machine.specs.declared.code.Slot.{Slot}
 use Rattle.mc_compile.specs.Translate.{between, joined, ex_len, ex_code, args_len, args_code, stores_code, st_len, bl_len, ls_len, st_code, bl_code, ls_code}
-use Rattle.mc_compile.specs.Whole.{fn_len, fn_code, fns_len, fns_code, main_len, code_len, starts_of, instrs_of, translate}
+use Rattle.mc_compile.specs.Whole.{fn_len, fn_code, fns_len, fns_code, main_len, code_len, starts_of, translate}
 
 -- the height changes no length
 pub between_length : (op : BinOp) (h : ℕ) → length (between op h) ≡ length (between op 0)

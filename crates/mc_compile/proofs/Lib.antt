@@ -13,3 +13,5 @@ pub mod Expressions
 pub mod Counts
 pub mod Statements
 pub mod Functions
+pub mod Memory
+pub mod Instances

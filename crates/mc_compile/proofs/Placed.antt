@@ -1,16 +1,16 @@
 -- The translation stands where it is put.
 use Rattle.std.proofs.Common.{◌≡◌, ℕ, ◌+◌, ◌<◌, List, [], ◌∷◌, ◌++◌, length, Some, refl, sym, ap, ◌∙◌, subst, arith, append_assoc, length-append}
-use Rattle.std.specs.Prelude.{slice_get, slice_index}
+use Rattle.std.specs.Prelude.{slice_index}
 use Rattle.std.proofs.Math.Seq.{get_or-append_seam}
 use Rattle.std.proofs.lemmas.Option.{slice_get-get_or}
 use Rattle.mc_tree.specs.Tree.{Ex, Num, Var, Elem, Un, Bin, St, Assign, AssignAt, Invoke, When, Choice, Loop, Scoped, Count, Series, Bl, Nil, Then, Ls, NoLoop, OneLoop, Fn, Tree}
 use Rattle.mc_tree.specs.Meaning.{params_at}
-use Rattle.word_machine.specs.declared.code.Instr.TheVariants.{Store, LoadX, StoreX, Jmp, Jz, CZero, CInc, Call, Ret, Halt}
+use Rattle.word_machine.specs.declared.code.Instr.TheVariants.{Store, LoadX, StoreX, Jmp, Jz, CInc, Ret, Halt}
 use Rattle.word_machine.specs.declared.code.Slot.{Slot}
-use Rattle.mc_compile.specs.Translate.{slot, unary_instr, between, joined, ex_len, ex_code, args_len, args_code, stores_code, st_len, bl_len, ls_len, st_code, bl_code, ls_code}
-use Rattle.mc_compile.specs.Whole.{fn_len, fn_code, fns_len, fns_code, fn_starts, main_len, starts_of, instrs_of, translate}
+use Rattle.mc_compile.specs.Translate.{slot, unary_instr, between, joined, ex_len, ex_code, args_len, args_code, stores_code, st_len, bl_len, st_code, bl_code, ls_code}
+use Rattle.mc_compile.specs.Whole.{fn_len, fn_code, fns_code, fn_starts, main_len, starts_of, instrs_of, translate}
 use Rattle.mc_compile.specs.Coded.{Has, HasAll, CodedE, CodedA, CodedS, Coded, CodedB, CodedL, CodedF, CodedFs, CodedTask}
-use Rattle.mc_compile.proofs.Lengths.{between_length, ex_length, args_length, stores_length, st_length, bl_length, ls_length, fn_length}
+use Rattle.mc_compile.proofs.Lengths.{between_length, ex_length, args_length, stores_length, st_length, bl_length, fn_length}
 
 -- a list stands in itself, behind what comes before
 pub stands : (ss pre : List Slot) → HasAll (pre ++ ss) (length pre) ss (length (pre ++ ss))

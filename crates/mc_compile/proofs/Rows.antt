@@ -5,11 +5,10 @@ use Rattle.mars_base.specs.declared.word.Role.{Role}
 use Rattle.mars_base.specs.declared.word.Role.TheVariants as role
 use Rattle.mars_base.specs.declared.word.BinOp.TheVariants as two
 use Rattle.mc_tree.specs.declared.tree.Cell.{Cell}
-use Rattle.mc_tree.specs.Tree.{Ex, Num, Var, Elem, Un, Bin, St, Assign, AssignAt, Invoke, When, Choice, Loop, Scoped, Count, Series, Bl, Nil, Then, Ls, NoLoop, OneLoop, Fn, Tree}
+use Rattle.mc_tree.specs.Tree.{Ex, Num, Var, Elem, Bin, St, Assign, AssignAt, Invoke, When, Choice, Loop, Scoped, Count, Series, Bl, Nil, Then, NoLoop, OneLoop, Fn, Tree}
 use Rattle.word_machine.specs.Execution.{exec, exec_from, Done, Broke}
 use Rattle.word_machine.specs.declared.code.CellShape.{CellShape}
 use Rattle.word_machine.specs.declared.code.Instr.TheVariants.{Push, Load, Store, LoadX, StoreX, Add, Sub, Div, Or, Lt, Le, Not, Jmp, Jz, CZero, CInc, Call, Ret, Halt}
-use Rattle.word_machine.specs.declared.code.Slot.{Slot}
 use Rattle.mc_compile.specs.Translate.{slot}
 use Rattle.mc_compile.specs.Whole.{translate, code_len}
 

@@ -1,16 +1,16 @@
 -- The code of a statement does what the statement does, and breaks where it breaks.
-use Rattle.std.proofs.Common.{◌≡◌, ◌≢◌, ◌⊎◌, inl, inr, ℕ, zero, suc, ◌+◌, ◌<◌, ◌≤◌, Bool, true, false, ℤ, List, [], ◌∷◌, length, Option, Some, None, refl, sym, ap, ◌∙◌, subst, arith, get_or-set_same, get_or-set_other}
+use Rattle.std.proofs.Common.{◌≡◌, ◌≢◌, inl, inr, ℕ, zero, suc, ◌+◌, ◌<◌, ◌≤◌, Bool, true, false, ℤ, List, [], ◌∷◌, length, Option, Some, None, refl, sym, ap, ◌∙◌, subst, arith, get_or-set_same, get_or-set_other}
 use Rattle.std.specs.Prelude.{if◌then◌else◌, slice_get, slice_index, slice_set, All}
-use Rattle.mars_base.specs.Store.{word_at, place_of, count_up}
+use Rattle.mars_base.specs.Store.{place_of, count_up}
 use Rattle.mars_base.specs.Word.{is_zero}
 use Rattle.mc_tree.specs.declared.tree.Cell.{Cell}
 use Rattle.mc_tree.specs.Tree.{Ex, St, Assign, AssignAt, Invoke, When, Choice, Loop, Scoped, Count, Series, Bl, Nil, Then, Ls, NoLoop, OneLoop}
 use Rattle.mc_tree.specs.Counters.{Counted, CountedB, CountedL}
 use Rattle.mc_tree.specs.Meaning.{After, Done, Broken, Back, Answers, Fails, value_of, with_value, with_count, by_test, then_do, back_to, turns, series_turns, with_back, also, first_then, values_of, with_values, set_all, set_elem, does, all_do, series_do}
-use Rattle.mc_tree.specs.Sound.{IsCell, SoundE, SoundTest, Sound, SoundB, SoundL}
+use Rattle.mc_tree.specs.Sound.{IsCell, SoundE, Sound, SoundB, SoundL}
 use Rattle.mc_tree.proofs.Checked.{counted_up, counted_up_b, counted_up_l}
-use Rattle.word_machine.specs.Runs.{Out, Halted, Broken as Broke, Run, ends, breaks, goes}
-use Rattle.word_machine.specs.State.{State, at as state, Next, Goes, Ends, Fails as Failing, Stuck, found, gives}
+use Rattle.word_machine.specs.Runs.{Broken as Broke, Run, breaks, goes}
+use Rattle.word_machine.specs.State.{State, at as state, Goes, found, gives}
 use Rattle.word_machine.specs.Step.{step}
 use Rattle.word_machine.specs.declared.code.Instr.TheVariants.{Store, StoreX, Jmp, Jz, CZero, CInc, Call}
 use Rattle.word_machine.specs.declared.code.Slot.{Slot}
