@@ -56,7 +56,7 @@ abbrev pub slot_test : Code → ℕ → Slot → Bool
 slot_test code k slot =
     ((not (has code.starts k) || nat_eq slot.height 0) && nat_le slot.height 64)
     && ((nat_le (pops_of (action_of slot.instr)) slot.height && nat_le (height_after slot) 64)
-      && action_test code k slot.height (height_after slot) (action_of slot.instr))
+    && action_test code k slot.height (height_after slot) (action_of slot.instr))
 
 abbrev pub slots_test : Code → ℕ → List Slot → Bool
 slots_test code k [] = true
@@ -101,9 +101,10 @@ last_so code k (inl c) = or_left (has code.starts (k + 1)) (nat_eq (k + 1) (leng
 last_so code k (inr e) = or_right (has code.starts (k + 1)) (nat_eq (k + 1) (length code.instrs)) (eq-eqb (k + 1) (length code.instrs) e)
 
 flows_so : (code : Code) (k after : ℕ) → flows_well code k after ≡ true → (height_at code.instrs (k + 1) ≡ Some after) × (IsLast code k → ⊥)
-flows_so code k after e =
-    (some_so (height_at code.instrs (k + 1)) after (first_so (some_is (height_at code.instrs (k + 1)) after) (not (is_last code k)) e),
-      λ l. not_so (is_last code k) (second_so (some_is (height_at code.instrs (k + 1)) after) (not (is_last code k)) e) (last_so code k l))
+flows_so code k after e = (
+  some_so (height_at code.instrs (k + 1)) after (first_so (some_is (height_at code.instrs (k + 1)) after) (not (is_last code k)) e),
+  λ l. not_so (is_last code k) (second_so (some_is (height_at code.instrs (k + 1)) after) (not (is_last code k)) e) (last_so code k l),
+)
 
 lands_so : (code : Code) (k t after : ℕ) → lands_well code k t after ≡ true → Lands code k t after
 lands_so code k t after e =
@@ -136,14 +137,16 @@ calls_so code k h after t e =
     let front = first_so (nat_eq h 0 && (flows_well code k 1 && has code.starts t)) (nat_le 1 j && (nat_eq i 0 || nat_lt j i)) e in
     let back = second_so (nat_eq h 0 && (flows_well code k 1 && has code.starts t)) (nat_le 1 j && (nat_eq i 0 || nat_lt j i)) e in
     let mid = second_so (nat_eq h 0) (flows_well code k 1 && has code.starts t) front in
-    let flow = flows_so code k 1 (first_so (flows_well code k 1) (has code.starts t) mid) in
-    (record {
-      before = eqb-true h 0 (first_so (nat_eq h 0) (flows_well code k 1 && has code.starts t) front);
-      after = flow.0;
-      start = has_contains code.starts t (second_so (flows_well code k 1) (has code.starts t) mid);
-      not_first = leb-true 1 j (first_so (nat_le 1 j) (nat_eq i 0 || nat_lt j i) back);
-      earlier = λ le. by_caller le (or_so (nat_eq i 0) (nat_lt j i) (second_so (nat_le 1 j) (nat_eq i 0 || nat_lt j i) back));
-    }, flow.1)
+    let flow = flows_so code k 1 (first_so (flows_well code k 1) (has code.starts t) mid) in (
+      record {
+        before = eqb-true h 0 (first_so (nat_eq h 0) (flows_well code k 1 && has code.starts t) front);
+        after = flow.0;
+        start = has_contains code.starts t (second_so (flows_well code k 1) (has code.starts t) mid);
+        not_first = leb-true 1 j (first_so (nat_le 1 j) (nat_eq i 0 || nat_lt j i) back);
+        earlier = λ le. by_caller le (or_so (nat_eq i 0) (nat_lt j i) (second_so (nat_le 1 j) (nat_eq i 0 || nat_lt j i) back));
+      },
+      flow.1,
+    )
   where
     by_caller : 1 ≤ routine_of code.starts k → ((nat_eq (routine_of code.starts k) 0 ≡ true) ⊎ (nat_lt (routine_of code.starts t) (routine_of code.starts k) ≡ true))
         → routine_of code.starts t < routine_of code.starts k

@@ -1,6 +1,6 @@
 //! What a processor does with a program.
 ghost use Rattle.std.specs.Prelude.{◌≡◌, ◌<◌, ◌≤◌, ◌^◌, ℕ, ℤ, List, max, length};
-ghost use Rattle.word_machine.specs.Execution.{Ran, turn_of, cycles_in, outs_in, state_in, IsDone, IsOver};
+ghost use Rattle.word_machine.specs.Execution.{Ran, turn_of, cycles_in, outs_in, state_in, IsOver};
 
 /// How an execution stands under its limit.
 #[derive(Clone, Copy, Debug, PartialEq, Eq)]
@@ -61,7 +61,7 @@ pub trait Cpu {
     fn outs(&self, program: &Self::Program, into: &mut [i32])
         requires room { length into.old ≡ outs_of program.now }
         requires halted { (state ins : List ℤ) × (m : ℕ) × runs self.now program.now state ins m
-            × IsDone (execution program.now m state ins) }
+            × (turn_of (execution program.now m state ins) ≡ Turn.Halted) }
         ensures { (state ins : List ℤ) (m : ℕ) → runs self.now program.now state ins m
             → into.new ≡ outs_in (execution program.now m state ins) };
 
@@ -69,7 +69,7 @@ pub trait Cpu {
     fn state(&self, program: &Self::Program, into: &mut [i32])
         requires room { length into.old ≡ states_of program.now }
         requires halted { (state ins : List ℤ) × (m : ℕ) × runs self.now program.now state ins m
-            × IsDone (execution program.now m state ins) }
+            × (turn_of (execution program.now m state ins) ≡ Turn.Halted) }
         ensures { (state ins : List ℤ) (m : ℕ) → runs self.now program.now state ins m
             → into.new ≡ state_in (execution program.now m state ins) };
 
