@@ -28,12 +28,15 @@ pub record KeepsFrom (base : ℕ) (ks ls : List ℕ) : Type 0 where
   pub len : length ls ≡ length ks
   pub same : (i : ℕ) → base ≤ i → slice_index ls i ≡ slice_index ks i
 
+-- a counter that there is
 pub counter_there : (ks : List ℕ) (c : ℕ) → c < length ks → slice_get ks c ≡ Some (slice_index ks c)
 counter_there ks c lt = slice_get-get_or ks c 0 lt
 
+-- nothing is changed
 pub keeps_all : (base top sc lo : ℕ) (ks : List ℕ) (m : ℕ) → scope_count sc ks ≡ m → Keeps base top sc lo ks ks m
 keeps_all base top sc lo ks m e = record { len = refl; same = λ i b h n. refl; above = λ i h. refl; count = e }
 
+-- one part after another
 pub keeps_then : (base top sc lo mid : ℕ) (ks ls ms : List ℕ) (m n : ℕ) → lo ≤ mid → Keeps base top sc lo ks ls m → Keeps base top sc mid ls ms n → Keeps base top sc lo ks ms n
 keeps_then base top sc lo mid ks ls ms m n le a b = record {
   len = b.len ∙ a.len;
@@ -42,6 +45,7 @@ keeps_then base top sc lo mid ks ls ms m n le a b = record {
   count = b.count;
 }
 
+-- what keeps more keeps less
 pub keeps_less : (base top sc lo mid : ℕ) (ks ls : List ℕ) (m : ℕ) → lo ≤ mid → Keeps base top sc mid ks ls m → Keeps base top sc lo ks ls m
 keeps_less base top sc lo mid ks ls m le a = record {
   len = a.len;
@@ -50,6 +54,7 @@ keeps_less base top sc lo mid ks ls m le a = record {
   count = a.count;
 }
 
+-- another counter stays
 other : (ks : List ℕ) (i c v : ℕ) → i ≢ c → slice_index (slice_set ks c v) i ≡ slice_index ks i
 other ks i c v ne = get_or-set_other ks c i v 0 ne
 
@@ -104,6 +109,7 @@ keeps_none base top sc lo ks ls m n w le e a = record {
   count = count_same base lo sc ks ls w le (λ i g h. a.same i g h (λ z. absurd (let x : ⊥ = omega (arith, z) in x))) ∙ e;
 }
 
+-- a call, which keeps all counters of the routine
 pub keeps_call : (base top sc lo : ℕ) (ks ls : List ℕ) (m : ℕ) → IsOwn base sc → sc ≤ lo → base ≤ top → scope_count sc ks ≡ m → KeepsFrom base ks ls → Keeps base top sc lo ks ls m
 keeps_call base top sc lo ks ls m w le bt e a = record {
   len = a.len;
@@ -112,8 +118,10 @@ keeps_call base top sc lo ks ls m w le bt e a = record {
   count = count_same base lo sc ks ls w le (λ i g h. a.same i g) ∙ e;
 }
 
+-- a count below its bound goes up
 pub up_below : (v n : ℕ) → v < n → count_up v n ≡ Some (v + 1)
 up_below v n h = ap (λ (b : Bool). if b then Some (v + 1) else None) (lt-ltb v n h)
 
+-- and one at its bound does not
 pub up_full : (v n : ℕ) → n ≤ v → count_up v n ≡ None
 up_full v n h = ap (λ (b : Bool). if b then Some (v + 1) else None) (le-ltb v n h)

@@ -27,6 +27,7 @@ use Rattle.mc_compile.proofs.Placed.{placed_task}
 use Rattle.mc_compile.proofs.Statements.{AreGood, Follows, runs_b}
 use Rattle.mc_compile.proofs.TypedTask.{fn_at, params_is}
 
+-- the machine's tests of a role are the task's
 same_state : (r : Role) → is_state r ≡ cells.is_state r
 same_state role.In = refl
 same_state role.Out = refl
@@ -45,15 +46,18 @@ RunsTo instrs s (Done words m) = Run instrs s (Halted words)
 RunsTo instrs s Broken = Run instrs s Broke
 
 module _ (t : Tree) (h : IsChecked t) where
+  -- the code of the task
   abbrev code : Code
   code = translate t
 
   abbrev params : ℕ → List ℕ
   params = params_at t.funcs
 
+  -- a cell of the task lies in the places of the code
   fits : (p w : ℕ) → IsCell t.cells p w → p + w ≤ code.places
   fits p w is = checked_cell t h p w is
 
+  -- the parameters of a function are cells of one word
   are_cells : (g : ℕ) → g < length t.funcs → All (λ (a : ℕ). IsCell t.cells a 1) (params g)
   are_cells g lt =
       let f = fn_at t.funcs g lt in
@@ -85,26 +89,31 @@ module _ (t : Tree) (h : IsChecked t) where
       finish Broken r = r
 
   module _ (state ins : List ℤ) (given : AreGiven t state ins) where
+    -- the words at the start
     start_is : words_at_start t.cells state ins ≡ cells.words_at_start code state ins
     start_is =
         subst (λ cs. words_at_start cs state ins ≡ cells.cells_at_start (shapes_of cs) state ins ++ replicate (words_in cs - cells.total_width (shapes_of cs)) (pos 0)) (sym h.declared)
         (same_start h.globals h.locals h.global_roles h.local_roles state ins)
 
+    -- there are as many as places
     are_words : AreWords code.places (words_at_start t.cells state ins)
     are_words =
         let x = start_words t.cells state ins (omega (arith, given.state_len)) (omega (arith, given.ins_len)) given.state_words given.ins_words in
         record { len = x.0; words = x.1 }
 
+    -- the state at the end
     state_is : (ws : List ℤ) → cells.cell_words cells.is_state code.cells ws ≡ words_of is_state t.cells ws
     state_is ws =
         subst (λ cs. cells.cell_words cells.is_state (shapes_of cs) ws ≡ words_of is_state cs ws) (sym h.declared)
         (same_end is_state cells.is_state same_state refl h.globals h.locals h.global_roles h.local_roles ws)
 
+    -- the outs at the end
     outs_are : (ws : List ℤ) → cells.cell_words cells.is_out code.cells ws ≡ words_of is_out t.cells ws
     outs_are ws =
         subst (λ cs. cells.cell_words cells.is_out (shapes_of cs) ws ≡ words_of is_out cs ws) (sym h.declared)
         (same_end is_out cells.is_out same_out refl h.globals h.locals h.global_roles h.local_roles ws)
 
+    -- the run from the start
     ends_as : EndsAs code state ins (instance_of t state ins)
     unfolding instance_of
     ends_as = go (all_do params (run_all params (reverse t.funcs)) t.body (words_at_start t.cells state ins) 0) (body_runs (placed_task t) (words_at_start t.cells state ins) are_words)
@@ -129,11 +138,13 @@ halts_once code state ins left outs cycles (Gives l u) x y =
 halts_once code state ins left outs cycles Breaking x y =
     let e = (run_once code.instrs (cells.start_of code state ins) Broke (Halted y.words) x y.run).0 in cc
 
+-- a run that breaks is that of a broken instance
 breaks_once : (code : Code) (state ins : List ℤ) (o : Outcome) → EndsAs code state ins o → Breaks code state ins → o ≡ Breaking
 breaks_once code state ins (Gives l u) x y =
     let e = (run_once code.instrs (cells.start_of code state ins) (Halted x.1.words) Broke x.1.run y).0 in cc
 breaks_once code state ins Breaking x y = refl
 
+-- the code of a checked task ends as the instance does, and no other way
 pub translation_right : (t : Tree) → IsChecked t → IsRight t (translate t)
 translation_right t h = record {
   ends = ends_as t h;

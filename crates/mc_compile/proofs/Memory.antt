@@ -19,12 +19,14 @@ AreLocal cells = All (λ (c : Cell). c.role ≡ role.Local) cells
 abbrev pub AreGlobal : List Cell → Type 0
 AreGlobal cells = All (λ (c : Cell). c.role ≢ role.Local) cells
 
+-- the rest of a list
 local_rest : (c : Cell) (cells : List Cell) → AreLocal (c ∷ cells) → AreLocal cells
 local_rest c cells h k d lt = h (suc k) d (omega arith)
 
 global_rest : (c : Cell) (cells : List Cell) → AreGlobal (c ∷ cells) → AreGlobal cells
 global_rest c cells h k d lt = h (suc k) d (omega arith)
 
+-- a cell that is no local is one of the code
 outside : (r : Role) → r ≢ role.Local → is_outside r ≡ true
 outside role.In ne = refl
 outside role.Out ne = refl
@@ -35,6 +37,7 @@ outside role.Local ne = absurd (ne refl)
 shapes_cons : (c : Cell) (cells : List Cell) → c.role ≢ role.Local → shapes_of (c ∷ cells) ≡ shape_of c ∷ shapes_of cells
 shapes_cons c cells ne = ap (λ b. map shape_of (cond b (c ∷ filter (λ c. is_outside c.role) cells) (filter (λ c. is_outside c.role) cells))) (outside c.role ne)
 
+-- locals have no shape
 shapes_local : (cells : List Cell) → AreLocal cells → shapes_of cells ≡ []
 shapes_local [] h = refl
 shapes_local (c ∷ cells) h =
@@ -49,6 +52,7 @@ start_local (c ∷ cells) h state ins =
     ∙ ap (λ ws. replicate c.width (pos 0) ++ ws) (start_local cells (local_rest c cells h) state ins)
     ∙ replicate-append-replicate c.width (words_in cells) (pos 0)
 
+-- the words of one cell at the start
 start_cell : (r : Role) → r ≢ role.Local → (w : ℕ) (rest : List ℤ → List ℤ → List ℤ) (rest' : List ℤ → List ℤ → List ℤ) (tail : List ℤ) → ((state ins : List ℤ) → rest state ins ≡ rest' state ins ++ tail) → (state ins : List ℤ)
     → cell_at_start r w rest state ins ≡ filled r w rest' state ins ++ tail
 start_cell role.In ne w rest rest' tail h state ins = ap (λ ws. take w ins ++ ws) (h state (drop w ins)) ∙ sym (append_assoc (take w ins) (rest' state (drop w ins)) tail)
@@ -56,6 +60,7 @@ start_cell role.State ne w rest rest' tail h state ins = ap (λ ws. take w state
 start_cell role.Out ne w rest rest' tail h state ins = ap (λ ws. replicate w (pos 0) ++ ws) (h state ins) ∙ sym (append_assoc (replicate w (pos 0)) (rest' state ins) tail)
 start_cell role.Local ne w rest rest' tail h state ins = absurd (ne refl)
 
+-- the cells of the code, and then 0
 start_all : (globals locals : List Cell) → AreGlobal globals → AreLocal locals → (state ins : List ℤ)
     → words_at_start (globals ++ locals) state ins ≡ cells_at_start (shapes_of (globals ++ locals)) state ins ++ replicate (words_in locals) (pos 0)
 start_all [] locals h l state ins =
@@ -72,6 +77,7 @@ width_all [] locals h l = omega (arith, ap total_width (shapes_local locals l))
 width_all (c ∷ globals) locals h l =
     omega (arith, width_all globals locals (global_rest c globals h) l, ap total_width (shapes_cons c (globals ++ locals) (h 0 c (omega arith))))
 
+-- the words at the start are the same
 pub same_start : (globals locals : List Cell) → AreGlobal globals → AreLocal locals → (state ins : List ℤ)
     → words_at_start (globals ++ locals) state ins ≡ cells_at_start (shapes_of (globals ++ locals)) state ins ++ replicate (words_in (globals ++ locals) - total_width (shapes_of (globals ++ locals))) (pos 0)
 same_start globals locals h l state ins =
@@ -80,12 +86,14 @@ same_start globals locals h l state ins =
 
 -- the words of one role at the end, where p and p' are the same test of a role
 module _ (p p' : Role → Bool) (same : (r : Role) → p r ≡ p' r) (no : p role.Local ≡ false) where
+  -- locals give no word
   end_local : (cells : List Cell) → AreLocal cells → (ws : List ℤ) → words_of p cells ws ≡ []
   end_local [] h ws = refl
   end_local (c ∷ cells) h ws =
       ap (λ b. (if b then take c.width ws else []) ++ words_of p cells (drop c.width ws)) (ap p (h 0 c (omega arith)) ∙ no)
       ∙ end_local cells (local_rest c cells h) (drop c.width ws)
 
+  -- the words of a role at the end are the same
   pub same_end : (globals locals : List Cell) → AreGlobal globals → AreLocal locals → (ws : List ℤ) → cell_words p' (shapes_of (globals ++ locals)) ws ≡ words_of p (globals ++ locals) ws
   same_end [] locals h l ws = ap (λ ss. cell_words p' ss ws) (shapes_local locals l) ∙ sym (end_local locals l ws)
   same_end (c ∷ globals) locals h l ws =
@@ -97,15 +105,19 @@ module _ (p p' : Role → Bool) (same : (r : Role) → p r ≡ p' r) (no : p rol
 abbrev pub AreSo : ℕ → List ℤ → Type 0
 AreSo n ws = (length ws ≡ n) × All IsWord ws
 
+-- one list behind another
 so_append : (n m : ℕ) (xs ys : List ℤ) → AreSo n xs → AreSo m ys → AreSo (n + m) (xs ++ ys)
 so_append n m xs ys a b = (omega (arith, length-append xs ys, a.0, b.0), All-append IsWord xs ys a.1 b.1)
 
+-- zeros
 so_zeros : (n : ℕ) → AreSo n (replicate n (pos 0))
 so_zeros n = (length-replicate n (pos 0), All-replicate IsWord n (pos 0) (record { sfits = omega arith }))
 
+-- the first words of a list
 so_taken : (n : ℕ) (xs : List ℤ) → n ≤ length xs → All IsWord xs → AreSo n (take n xs)
 so_taken n xs le h = (length-take-le n xs le, All-take IsWord n xs h)
 
+-- a cell gets as many words as it has
 start_cell_words : (r : Role) (w m more_state more_ins : ℕ) (rest : List ℤ → List ℤ → List ℤ) → ((state ins : List ℤ) → more_state ≤ length state → more_ins ≤ length ins → All IsWord state → All IsWord ins → AreSo m (rest state ins))
     → (state ins : List ℤ) → (if is_state r then w else 0) + more_state ≤ length state → (if is_in r then w else 0) + more_ins ≤ length ins → All IsWord state → All IsWord ins → AreSo (w + m) (cell_at_start r w rest state ins)
 start_cell_words role.In w m more_state more_ins rest h state ins s i sw iw =
