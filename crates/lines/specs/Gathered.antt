@@ -1,5 +1,6 @@
 -- Text that was put to an output, and text that still waits.
-use Rattle.std.specs.Prelude.{◌≡◌, ℕ, List, ◌++◌, Option}
+use Rattle.std.specs.Prelude.{◌≡◌, ℕ, List, [], ◌∷◌, ◌++◌, Option, Result, MatchResult}
+use Rattle.std.specs.Borrow.{Bor}
 use Rattle.std.specs.Io.KnownBytes.{append_known}
 
 -- of the text a front was put behind what was there, and the rest waits
@@ -14,3 +15,14 @@ pub record HasFront (base : Option (List ℕ)) (text : List ℕ) (out : Option (
   pub rest : List ℕ
   pub whole : text ≡ front ++ rest
   pub stands : out ≡ append_known base front
+
+-- the bytes were written behind whatever was gathered, or at an error a front of that and them was put
+abbrev pub Writes : {E : Type 0} → Option (List ℕ) → List ℕ → List ℕ → Option (List ℕ) → List ℕ → Result (Unit {0}) E → Type 0
+Writes out waiting bytes new left result = MatchResult result
+    (λ _. (base : Option (List ℕ)) (text : List ℕ) → Gathered base text out waiting → Gathered base (text ++ bytes) new left)
+    (λ _. (base : Option (List ℕ)) (text : List ℕ) → Gathered base text out waiting → HasFront base (text ++ bytes) new)
+
+-- the bytes of pieces, one after another
+abbrev pub joined : List (Bor (List ℕ)) → List ℕ
+joined [] = []
+joined (piece ∷ pieces) = piece.now ++ joined pieces

@@ -1,6 +1,6 @@
 //! Output text, gathered until it is sent.
-ghost use Rattle.std.specs.Prelude.{◌≡◌, ◌+◌, ◌≤◌, ◌++◌, ℕ, List, Option, [], IfOk, OnOk, OnErr, IsTrue, ◌↔◌, length};
-ghost use Rattle.lines.specs.Gathered.{Gathered, HasFront};
+ghost use Rattle.std.specs.Prelude.{◌≡◌, ◌+◌, ◌≤◌, ◌++◌, [], IfOk, IsTrue, ◌↔◌, length};
+ghost use Rattle.lines.specs.Gathered.{Writes};
 ghost use Rattle.std.specs.Fmt.{signed_decimal};
 ghost use Rattle.mars_base.specs.Causes.{HasCause};
 ghost use Rattle.mars_base.specs.Outside.{Puts};
@@ -83,10 +83,7 @@ impl LineBuf {
 
     /// Writes bytes of any length: they wait where they fit, and else go out behind what waits.
     pub fn write<O: Sink>(&mut self, out: &mut O, bytes: &[u8]) -> Result<(), SinkFault>
-        ensures ok { OnOk result ((base : Option (List ℕ)) (text : List ℕ) → Gathered base text (O.holds out.old) self.old
-            → Gathered base (text ++ bytes.now) (O.holds out.new) self.new) }
-        ensures err { OnErr result ((base : Option (List ℕ)) (text : List ℕ) → Gathered base text (O.holds out.old) self.old
-            → HasFront base (text ++ bytes.now) (O.holds out.new)) }
+        ensures bytes { Writes (O.holds out.old) self.old bytes.now (O.holds out.new) self.new result }
         ensures cause { HasCause (O.faults out.old) (O.faults out.new) result }
     {
         if bytes.len() <= self.room() {
@@ -105,24 +102,17 @@ impl LineBuf {
 
     /// Writes a number in decimal digits, with a minus before it where it is negative.
     pub fn write_number<O: Sink>(&mut self, out: &mut O, value: i64) -> Result<(), SinkFault>
-        ensures ok { OnOk result ((base : Option (List ℕ)) (text : List ℕ) → Gathered base text (O.holds out.old) self.old
-            → Gathered base (text ++ signed_decimal value) (O.holds out.new) self.new) }
-        ensures err { OnErr result ((base : Option (List ℕ)) (text : List ℕ) → Gathered base text (O.holds out.old) self.old
-            → HasFront base (text ++ signed_decimal value) (O.holds out.new)) }
+        ensures bytes { Writes (O.holds out.old) self.old (signed_decimal value) (O.holds out.new) self.new result }
         ensures cause { HasCause (O.faults out.old) (O.faults out.new) result }
     {
         let mut digits = Buffer::new();
-        self.write(out, digits.format(value).as_bytes())?;
-        Ok(())
+        self.write(out, digits.format(value).as_bytes())
     }
 
     /// Sends what waits, where something does.
     pub fn flush<O: Sink>(&mut self, out: &mut O) -> Result<(), SinkFault>
         ensures empty { self.new ≡ [] }
-        ensures ok { OnOk result ((base : Option (List ℕ)) (text : List ℕ) → Gathered base text (O.holds out.old) self.old
-            → Gathered base text (O.holds out.new) []) }
-        ensures err { OnErr result ((base : Option (List ℕ)) (text : List ℕ) → Gathered base text (O.holds out.old) self.old
-            → HasFront base text (O.holds out.new)) }
+        ensures bytes { Writes (O.holds out.old) self.old [] (O.holds out.new) [] result }
         ensures cause { HasCause (O.faults out.old) (O.faults out.new) result }
     {
         if self.is_empty() {

@@ -31,8 +31,10 @@ fn execute<C: Cpu>(
     requires limit { limit < 2 ^ 31 }
     ensures turn { result.0 ≡ turn_of (C.execution program.now limit state.old ins.now) }
     ensures cycles { result.1 ≡ cycles_in (C.execution program.now limit state.old ins.now) }
-    ensures outs { result.0 ≡ Turn.Halted → outs.new ≡ outs_in (C.execution program.now limit state.old ins.now) }
-    ensures state { result.0 ≡ Turn.Halted → state.new ≡ state_in (C.execution program.now limit state.old ins.now) }
+    ensures outs { result.0 ≡ Turn.Halted
+        → outs.new ≡ outs_in (C.execution program.now limit state.old ins.now) }
+    ensures state { result.0 ≡ Turn.Halted
+        → state.new ≡ state_in (C.execution program.now limit state.old ins.now) }
 {
     cpu.load(program, state, ins);
     let turn = cpu.advance(program, limit);
@@ -56,7 +58,8 @@ fn run(
     limit: u32,
     outs: &mut [i32],
 ) -> Result<(Turn, u32), Memory>
-    requires verified { IsVerified (record { starts = starts.now; instrs = slots.now; places = places; counters = counters; cells = cells.now }) }
+    requires verified { IsVerified (record {
+        starts = starts.now; instrs = slots.now; places = places; counters = counters; cells = cells.now }) }
     requires state { length state.old ≡ width_of is_state cells.now }
     requires ins { length ins.now ≡ width_of is_in cells.now }
     requires outs { length outs.old ≡ width_of is_out cells.now }
