@@ -1,0 +1,4 @@
+pub mod Spans
+pub mod Opened
+pub mod Turns
+pub mod Ends

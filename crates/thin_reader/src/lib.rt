@@ -2,6 +2,17 @@
 //! numbers.
 #![tactic(auto)]
 
+mod body;
+mod heading;
 mod symbol;
 
 pub use symbol::{Symbol, ThinOp};
+
+/// Why no tree was read.
+#[derive(Clone, Copy, Debug, PartialEq, Eq)]
+pub enum ThinFault {
+    /// The text is no thin task.
+    NotBuilt,
+    /// There was no memory.
+    Memory,
+}
