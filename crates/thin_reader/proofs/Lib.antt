@@ -2,3 +2,4 @@ pub mod Spans
 pub mod Opened
 pub mod Turns
 pub mod Ends
+pub mod Complete

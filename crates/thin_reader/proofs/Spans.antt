@@ -8,7 +8,7 @@ use Rattle.mc_tree.specs.declared.token.Key.{Key}
 use Rattle.mc_tree.specs.declared.token.Key.TheVariants as key
 use Rattle.mc_tree.specs.declared.token.Sign.{Sign}
 use Rattle.mc_tree.specs.declared.token.Sign.TheVariants as sign
-use Rattle.thin_reader.specs.Spans.{SpansInOrder}
+use Rattle.mc_tree.specs.Tokens.{SpansInOrder}
 use Rattle.thin_reader.specs.Symbols.{symbol, kind_symbol, key_symbol, sign_symbol}
 use Rattle.thin_reader.specs.Plain.{IsInside}
 

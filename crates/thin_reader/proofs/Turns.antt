@@ -63,7 +63,7 @@ body_end cells bytes ts i st b u F le = ap (λ ss. M.run cells bytes ss st b u F
 
 -- whether a body has ended decides what was read
 pub has_ended : (r : Bool) (b : List St) (o : Option (List St)) → o ≡ (if r then Some b else None) → r ≡ true → o ≡ Some b
-has_ended r b o is yes = is ∙ ap (λ x. if x then Some b else None) yes
+has_ended r b o is ends = is ∙ ap (λ x. if x then Some b else None) ends
 
 pub has_not_ended : (r : Bool) (b : List St) (o : Option (List St)) → o ≡ (if r then Some b else None) → r ≡ false → o ≡ None
-has_not_ended r b o is no = is ∙ ap (λ x. if x then Some b else None) no
+has_not_ended r b o is goes_on = is ∙ ap (λ x. if x then Some b else None) goes_on

@@ -8,7 +8,7 @@ use Rattle.mc_tree.specs.declared.tree.Cell.{Cell}
 use Rattle.mc_tree.specs.declared.token.Token.{Token}
 use Rattle.mc_tree.specs.Tree.{Ex, Num, Var, Bin, Assign, Bl, Nil, Then, Tree}
 use Rattle.mc_tree.specs.Plain.{place_in}
-use Rattle.thin_reader.specs.Spans.{text_of}
+use Rattle.mc_tree.specs.Tokens.{text_of}
 use Rattle.thin_reader.specs.Sizes.{operators, operand_words}
 use Rattle.thin_reader.specs.Symbols.{operator, level, symbols}
 use Rattle.thin_reader.specs.declared.symbol.ThinOp.{ThinOp}

@@ -3,7 +3,7 @@ use Rattle.std.specs.Prelude.{ℕ, List, [], ◌∷◌, ◌++◌, length, Option
 use Rattle.mars_base.specs.declared.word.Role.{Role}
 use Rattle.mars_base.specs.declared.word.Role.TheVariants as role
 use Rattle.mc_tree.specs.declared.tree.Cell.{Cell}
-use Rattle.thin_reader.specs.Spans.{text_of}
+use Rattle.mc_tree.specs.Tokens.{text_of}
 use Rattle.thin_reader.specs.Grammar.{cell_named, port}
 use Rattle.thin_reader.specs.declared.symbol.Symbol.{Symbol}
 use Rattle.thin_reader.specs.declared.symbol.Symbol.TheVariants as S

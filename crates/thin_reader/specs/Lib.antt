@@ -1,6 +1,5 @@
 pub mod Sizes
 pub mod Thin
-pub mod Spans
 pub mod Symbols
 pub mod Grammar
 pub mod Heading

@@ -3,7 +3,7 @@ use Rattle.std.specs.Prelude.{ℕ, suc, List, [], ◌∷◌, ◌++◌, Option, S
 use Rattle.mc_tree.specs.declared.tree.Cell.{Cell}
 use Rattle.mc_tree.specs.Tree.{Ex, Num, Var, Bin, St, Assign}
 use Rattle.mc_tree.specs.Plain.{place_in}
-use Rattle.thin_reader.specs.Spans.{text_of}
+use Rattle.mc_tree.specs.Tokens.{text_of}
 use Rattle.thin_reader.specs.Sizes.{operand_words}
 use Rattle.thin_reader.specs.Symbols.{operator, level}
 use Rattle.thin_reader.specs.Grammar.{cell_named}

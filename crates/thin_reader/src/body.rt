@@ -7,7 +7,7 @@ ghost use Rattle.thin_reader.specs.Sizes.{operand_words as words};
 ghost use Rattle.thin_reader.specs.Symbols.{operator, symbols};
 ghost use Rattle.thin_reader.specs.Machine.{reduce as reduced, top, operates, closes, finishes, ended, deeper as deepens, constant as constants, becomes as assigns, wants, has, lines as begins, step as next_step, run as runs, Lines as AtLines};
 ghost use Rattle.thin_reader.specs.Plain.{plain_frame, stack, frames_of, lines_of, plain_stage, plain_step, IsSized, IsInside, IfNotBuilt};
-ghost use Rattle.thin_reader.specs.Spans.{SpansInOrder};
+ghost use Rattle.mc_tree.specs.Tokens.{SpansInOrder};
 ghost use Rattle.thin_reader.specs.Grammar.{cell_named as number_named};
 
 use crate::heading::{cell_named, text};

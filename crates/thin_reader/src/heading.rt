@@ -1,6 +1,6 @@
 //! A task's name and ports.
 ghost use Rattle.std.specs.Prelude.{◌≡◌, [], ◌≤◌, length, drop, IfOk, IfErr};
-ghost use Rattle.thin_reader.specs.Spans.{text_of, SpansInOrder};
+ghost use Rattle.mc_tree.specs.Tokens.{text_of, SpansInOrder};
 ghost use Rattle.thin_reader.specs.Symbols.{symbols};
 ghost use Rattle.thin_reader.specs.Grammar.{cell_named as number_named};
 ghost use Rattle.thin_reader.specs.Heading.{starts, ends_title, begins, opens, titled, adds as port_added, named_port, step as next_step, run as runs, Good, Bad};
