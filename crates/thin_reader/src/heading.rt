@@ -188,6 +188,8 @@ pub fn read_heading(alloc: Global, bytes: &[u8], tokens: &[Token]) -> Result<Rea
     requires { SpansInOrder 0 tokens.now (length bytes.now) }
     ensures ok { IfOk result (λ r. runs bytes.now (symbols tokens.now) Start [] [] ≡ Good r.heading.name r.heading.cells (symbols (drop r.taken tokens.now))) }
     ensures bad { IfErr result (λ e. IfNotBuilt e (runs bytes.now (symbols tokens.now) Start [] [] ≡ Bad)) }
+    ensures within { IfOk result (λ r. r.taken ≤ length tokens.now) }
+    ensures few { IfOk result (λ r. length r.heading.cells ≤ 16) }
 {
     let mut heading = Heading {
         name: Text::from_vec(Vec::new(alloc)),

@@ -4,8 +4,10 @@
 
 mod body;
 mod heading;
+mod read;
 mod symbol;
 
+pub use read::read_thin;
 pub use symbol::{Symbol, ThinOp};
 
 /// Why no tree was read.
