@@ -2,16 +2,20 @@
 use Rattle.std.proofs.Common.{◌≡◌, ℕ, ◌≤◌, List, [], ◌∷◌, ◌++◌, length, map, refl, ap, ◌∙◌, sym, subst, Option, Some, None, arith}
 use Rattle.mars_base.specs.declared.text.Span.{Span}
 use Rattle.mc_tree.specs.declared.tree.Cell.{Cell}
-use Rattle.mc_tree.specs.declared.tree.Stmt.{Stmt}
+use Rattle.mc_tree.specs.declared.tree.Func.{Func}
+use Rattle.mc_tree.specs.declared.tree.Task.{Task}
 use Rattle.mc_tree.specs.declared.token.Token.{Token}
 use Rattle.mc_tree.specs.Tree.{St, Bl, Nil, Then, Tree}
-use Rattle.mc_tree.specs.Plain.{block_of, plain_stmt}
+use Rattle.mc_tree.specs.Plain.{block_of, plain_stmt, plain_list, plain_task}
 use Rattle.mc_tree.specs.Tokens.{text_of}
 use Rattle.thin_reader.specs.declared.symbol.Symbol.{Symbol}
 use Rattle.thin_reader.specs.declared.symbol.Symbol.TheVariants as S
 use Rattle.thin_reader.specs.declared.heading.Place.TheVariants.{Start}
 use Rattle.thin_reader.specs.Symbols.{symbols}
 use Rattle.thin_reader.specs.Grammar.{Ports, Assignments, SpellsTask, task, SpellsThin, thin_tree}
+use Rattle.thin_reader.specs.declared.ThinFault.{ThinFault}
+use Rattle.thin_reader.specs.declared.ThinFault.TheVariants.{NotBuilt, Memory}
+use Rattle.thin_reader.specs.Plain.{IfNotBuilt}
 use Rattle.thin_reader.specs.Heading as H
 use Rattle.thin_reader.specs.Machine as M
 use Rattle.thin_reader.proofs.Complete.{statements, body_goes}
@@ -81,3 +85,23 @@ module _ (bytes : List ℕ) where
       let er : rest ≡ r.rest = cc in
       let eo : None ≡ Some (statements t.body) = sym b ∙ ap (λ x. M.run x bytes rest M.Lines [] 0 []) ec ∙ ap (λ x. M.run t.cells bytes x M.Lines [] 0 []) er ∙ r.body in
       cc
+
+-- a task that has nothing but ports and assignments, as plain data
+plain_is : (t : Task) → t.funcs ≡ [] → t.counters ≡ 0 → plain_task t ≡ thin_tree t.name t.cells (plain_list t.cells t.body)
+plain_is t no_funcs none =
+    ap (λ (f : List Func). plain_task (record t { funcs = f })) no_funcs ∙ ap (λ (n : ℕ). plain_task (record t { funcs = []; counters = n })) none
+
+module _ (bytes : List ℕ) (ss rest : List Symbol) (t : Task) (no_funcs : t.funcs ≡ []) (no_counters : t.counters ≡ 0) (heading : H.run bytes ss Start [] [] ≡ H.Good t.name t.cells rest)
+    (body : M.run t.cells bytes rest M.Lines [] 0 [] ≡ Some (map (plain_stmt t.cells) t.body)) where
+  -- the answer is spelled
+  pub answer_is_spelled : SpellsTask bytes ss (plain_task t)
+  answer_is_spelled = subst (λ (x : Tree). SpellsTask bytes ss x) (sym (plain_is t no_funcs no_counters)) (spelled bytes ss rest t.name t.cells (map (plain_stmt t.cells) t.body) heading body)
+
+  -- what is spelled is the answer
+  pub answer_is_only : (x : Tree) → SpellsTask bytes ss x → plain_task t ≡ x
+  answer_is_only x d = plain_is t no_funcs no_counters ∙ same_tree bytes ss rest t.name t.cells (map (plain_stmt t.cells) t.body) x heading body d
+
+-- the fault is want of memory, unless nothing is spelled
+pub fault_is : (e : ThinFault) (P : Type 0) (bytes : List ℕ) (ss : List Symbol) (x : Tree) → IfNotBuilt e P → (P → SpellsTask bytes ss x → ⊥) → SpellsTask bytes ss x → e ≡ Memory
+fault_is NotBuilt P bytes ss x h never d = absurd (never h d)
+fault_is Memory P bytes ss x h never d = refl

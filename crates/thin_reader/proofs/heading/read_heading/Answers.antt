@@ -1,7 +1,9 @@
-use Rattle.std.proofs.Common.{◌∙◌, ap, sym, subst, length}
+use Rattle.std.proofs.Common.{◌∙◌, length, drop, ◌+◌}
 use Rattle.thin_reader.specs.Heading as H
 use Rattle.thin_reader.specs.Plain.{IsInside}
 use Rattle.thin_reader.proofs.Spans.{inside}
+use Rattle.thin_reader.specs.Symbols.{symbols}
+use Rattle.thin_reader.proofs.Whole.{heading_few}
 use Rattle.thin_reader.proofs.Turns.{heading_next, heading_done, heading_dead, no_heading}
 use Rattle.thin_reader.proofs.heading.read_heading.Goals as goal
 
@@ -25,3 +27,6 @@ loop-i-preserved c =
 
 pub returns-clause-bad : goal.returns-clause-bad
 returns-clause-bad c = c.loop-i.invariant ∙ no_heading c.args.bytes.now c.args.tokens.now c.loop-i.i c.loop-i.place c.loop-i.heading.name c.loop-i.heading.cells c.loop-i-test.false
+
+pub returns-in-Ok-Done-clause-few : goal.returns-in-Ok-Done-clause-few
+returns-in-Ok-Done-clause-few c = heading_few c.args.bytes.now (symbols c.args.tokens.now) (symbols (drop (c.loop-i.i + 1) c.args.tokens.now)) c.advance.new.self.name c.advance.new.self.cells (returns-in-Ok-Done-clause-ok c)
