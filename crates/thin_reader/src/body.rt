@@ -100,12 +100,7 @@ fn pull(frames: &mut Vec<Frame>) -> Option<Frame>
 }
 
 /// The operators of the level `least` and above end.
-fn reduce(
-    alloc: Global,
-    frames: &mut Vec<Frame>,
-    least: u8,
-    value: Expr,
-) -> Result<Expr, Memory>
+fn reduce(alloc: Global, frames: &mut Vec<Frame>, least: u8, value: Expr) -> Result<Expr, Memory>
     ensures { IfOk result (λ v. (cells : List Port) → reduced least (stack cells frames.old.items) (plain_expr cells value) ≡ top (plain_expr cells v) (stack cells frames.new.items)) }
 {
     match frames.pop() {

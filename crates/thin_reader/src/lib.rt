@@ -2,11 +2,13 @@
 //! numbers.
 #![tactic(auto)]
 
+mod bare;
 mod body;
 mod heading;
 mod read;
 mod symbol;
 
+pub use bare::is_bare;
 pub use read::read_thin;
 pub use symbol::{Symbol, ThinOp};
 
