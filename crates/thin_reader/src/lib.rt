@@ -7,6 +7,8 @@ mod body;
 mod heading;
 mod read;
 mod symbol;
+#[cfg(test)]
+mod tests;
 
 pub use bare::is_bare;
 pub use read::read_thin;
