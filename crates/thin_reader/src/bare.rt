@@ -6,12 +6,14 @@ ghost use Rattle.mc_tree.specs.Tokens.{SpansInOrder, OnlyBlanksBetween};
 
 use mc_tree::Token;
 
+/// Whether a byte is a space, tab, line feed or carriage return.
 fn is_blank(byte: u8) -> bool
     ensures { result ≡ blank byte }
 {
     byte == b' ' || byte == b'\t' || byte == b'\n' || byte == b'\r'
 }
 
+/// Whether all bytes are blanks.
 fn are_blanks(bytes: &[u8]) -> bool
     ensures { result ≡ list_all blank bytes.now }
 {
