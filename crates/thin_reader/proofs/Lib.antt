@@ -8,3 +8,4 @@ pub mod HeadingLemmas
 pub mod ThinLemmas
 pub mod Whole
 pub mod Blanks
+mod Worked
