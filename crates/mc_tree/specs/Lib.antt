@@ -1,4 +1,9 @@
+pub mod Checked
+pub mod Counters
+pub mod Height
 pub mod Instance
 pub mod Meaning
 pub mod Plain
+pub mod Sound
 pub mod Tree
+pub mod Worked

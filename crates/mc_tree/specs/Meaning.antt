@@ -1,6 +1,6 @@
 -- What a part of the tree does, by recursion on the tree and on the stated bounds. The language is this
 -- project's own. A break anywhere makes the whole broken.
-use Rattle.std.specs.Prelude.{ℕ, zero, suc, ◌+◌, ℤ, pos, negsuc, Bool, true, false, List, [], ◌∷◌, length, nat_eq, nat_lt, Option, Some, None, if◌then◌else◌, slice_get, slice_set}
+use Rattle.std.specs.Prelude.{ℕ, zero, suc, ℤ, Bool, true, false, List, [], ◌∷◌, length, nat_eq, Option, Some, None, if◌then◌else◌, slice_set}
 use Rattle.mars_base.specs.Word.{binary_of, unary_of, is_zero}
 use Rattle.mars_base.specs.Store.{word_at, place_of, count_up}
 use Rattle.mc_tree.specs.Tree.{Ex, Num, Var, Elem, Un, Bin, St, Assign, AssignAt, Invoke, When, Choice, Loop, Scoped, Count, Series, Bl, Nil, Then, Ls, NoLoop, OneLoop, Fn}

@@ -79,6 +79,10 @@ plain_stmt cells s = fold-Stmt St (st_of cells) s
 abbrev pub plain_list : List Cell → List Stmt → Bl
 plain_list cells ss = block_of (map (plain_stmt cells) ss)
 
+-- the loops of a sequence
+abbrev pub plain_loops : List Cell → List Stmt → Ls
+plain_loops cells ss = series_of (map (plain_stmt cells) ss)
+
 abbrev pub plain_func : List Cell → Func → Fn
 plain_func cells f = record {
   params = map (place_in cells) f.params;

@@ -1,0 +1,4 @@
+pub mod Costs
+pub mod Lengths
+pub mod Placed
+mod Rows

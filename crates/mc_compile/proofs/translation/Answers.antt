@@ -1,0 +1,7 @@
+use Rattle.mc_compile.proofs.Costs.{ex_costs}
+use Rattle.mc_compile.proofs.Lengths.{code_length}
+use Rattle.mc_compile.proofs.Placed.{placed_task}
+use Rattle.mc_compile.proofs.translation.Goals as goal
+
+pub returns : goal.returns
+returns c = record { stands = placed_task; size = code_length; costs = ex_costs }

@@ -1,0 +1,4 @@
+pub mod Coded
+pub mod Cost
+pub mod Translate
+pub mod Whole

@@ -1,0 +1,17 @@
+//! The translation of a checked task to machine code.
+#![tactic(auto)]
+
+ghost use Rattle.mc_compile.specs.Coded.{CodedTask};
+ghost use Rattle.mc_compile.specs.Cost.{costs_of, ex_cost};
+ghost use Rattle.mc_compile.specs.Translate.{ex_code};
+ghost use Rattle.mc_compile.specs.Whole.{translate, code_len};
+ghost use Rattle.mc_tree.specs.Tree.{Ex, Tree};
+ghost use Rattle.std.specs.Prelude.{◌≡◌, ℕ, length};
+
+/// What holds of the translation of every tree. Its parts stand one after another, each jump goes to where
+/// its part begins or ends, and its length is known beforehand. An expression's code costs the same each time.
+pub fn translation()
+    ensures stands { (t : Tree) → CodedTask t (translate t) }
+    ensures size { (t : Tree) → length (translate t).instrs ≡ code_len t }
+    ensures costs { (h : ℕ) → (e : Ex) → costs_of (ex_code h e) ≡ ex_cost e }
+{}
