@@ -1,0 +1,4 @@
+pub mod Sizes
+pub mod Thin
+pub mod Spans
+pub mod Symbols
