@@ -1,0 +1,4 @@
+pub mod Emitted
+pub mod Operators
+pub mod Ports
+pub mod Leads

@@ -1,0 +1,4 @@
+pub mod Exact
+pub mod Follows
+pub mod Straight
+pub mod Widths
