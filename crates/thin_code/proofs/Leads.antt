@@ -62,12 +62,12 @@ module _ (instrs : List Slot) where
       ∙ ap (λ n. exec_from instrs limit (at n st' ws' ks rs) (cycles + cost_of s.instr)) has.next
 
   -- where one instruction stands alone
-  alone : (ss : List Slot) (s : Slot) (p q : ℕ) → ss ≡ s ∷ [] → HasAll instrs p ss q → Has instrs p s q
+  pub alone : (ss : List Slot) (s : Slot) (p q : ℕ) → ss ≡ s ∷ [] → HasAll instrs p ss q → Has instrs p s q
   alone ss s p q is has =
       let h = subst (λ l. HasAll instrs p l q) is has in
       record { here = h.1.here; next = h.1.next ∙ h.2 }
 
-  none_there : (ss : List Slot) (p q : ℕ) → ss ≡ [] → HasAll instrs p ss q → p ≡ q
+  pub none_there : (ss : List Slot) (p q : ℕ) → ss ≡ [] → HasAll instrs p ss q → p ≡ q
   none_there ss p q is has = subst (λ l. HasAll instrs p l q) is has
 
   combine : (op : BinOp) (i : Instr) (p : ℕ) (st ws : List ℤ) (ks rs : List ℕ) (x y w : ℤ) → action_of i ≡ Combines op → binary_of op x y ≡ Some w

@@ -1,4 +1,6 @@
 pub mod Emitted
+pub mod Leads
 pub mod Operators
 pub mod Ports
-pub mod Leads
+pub mod Thin
+pub mod Typed

@@ -13,8 +13,8 @@ use sqlite_items::Items;
 use std::alloc::Global;
 use word_machine::{CellShape, Instr, Slot};
 
-/// One more instruction, with the number of operands before it.
-pub fn put(code: &mut Items<Slot>, instr: Instr, height: u8) -> Result<(), Memory>
+// One more instruction, with the number of operands before it.
+fn put(code: &mut Items<Slot>, instr: Instr, height: u8) -> Result<(), Memory>
     ensures { OnOk result (code.new ≡ code.old ++ slot instr height ∷ []) }
 {
     code.push(Slot { instr, height })?;
@@ -93,15 +93,17 @@ fn emit_stmt(code: &mut Items<Slot>, cells: &[Cell], stmt: &Stmt) -> Result<(), 
     }
 }
 
-/// The instructions of a body's assignments.
-pub fn emit_body(code: &mut Items<Slot>, cells: &[Cell], body: &[Stmt]) -> Result<(), Memory>
+/// The instructions of a body's assignments, and HALT.
+pub fn emit_body(alloc: Global, cells: &[Cell], body: &[Stmt]) -> Result<Items<Slot>, Memory>
     requires { AreThin (length cells.now) (plain_list cells.now body.now) }
-    ensures { OnOk result (code.new ≡ code.old ++ assignments_code (plain_list cells.now body.now)) }
+    ensures { IfOk result (λ code. code ≡ assignments_code (plain_list cells.now body.now) ++ slot Instr.Halt 0 ∷ []) }
 {
+    let mut code = Items::new(alloc);
     for stmt in body {
-        emit_stmt(code, cells, stmt)?;
+        emit_stmt(&mut code, cells, stmt)?;
     }
-    Ok(())
+    put(&mut code, Instr::Halt, 0)?;
+    Ok(code)
 }
 
 /// The role and the width of each cell.

@@ -6,6 +6,6 @@ use Rattle.thin_code.proofs.emit.emit_body.Given as goal
 
 abbrev pub invariant-loop-stmt : goal.invariant-loop-stmt
 invariant-loop-stmt l = record {
-  made : l.code ++ assignments_code (plain_list l.cells (drop l.stmt-index l.body)) ≡ l.initial.code ++ assignments_code (plain_list l.cells l.body);
+  made : l.code ++ assignments_code (plain_list l.cells (drop l.stmt-index l.body)) ≡ assignments_code (plain_list l.cells l.body);
   thin : AreThin (length l.cells) (plain_list l.cells (drop l.stmt-index l.body));
 }
