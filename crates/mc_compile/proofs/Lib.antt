@@ -1,4 +1,12 @@
 pub mod Costs
+pub mod Heights
 pub mod Lengths
 pub mod Placed
 mod Rows
+pub mod Shapes
+pub mod Starts
+pub mod TypedParts
+pub mod TypedStatements
+pub mod TypedTask
+pub mod Words
+pub mod Expressions

@@ -36,7 +36,7 @@ module _ (instrs : List Slot) where
   cons s ss p q h =
       (record { here = h.1.here; next = refl }, subst (λ n. HasAll instrs n ss q) (sym h.1.next) h.2)
 
-  only : (s : Slot) (p q : ℕ) → HasAll instrs p (s ∷ []) q → Has instrs p s q
+  pub only : (s : Slot) (p q : ℕ) → HasAll instrs p (s ∷ []) q → Has instrs p s q
   only s p q h = record { here = h.1.here; next = h.1.next ∙ h.2 }
 
   -- a list of length n and the rest

@@ -4,6 +4,7 @@ use Rattle.mars_base.specs.declared.word.Role.{Role}
 use Rattle.mars_base.specs.declared.word.Role.TheVariants as role
 use Rattle.mc_tree.specs.declared.tree.Cell.{Cell}
 use Rattle.mc_tree.specs.Tree.{Fn, Tree}
+use Rattle.mc_tree.specs.Checked.{words_in}
 use Rattle.mc_tree.specs.Meaning.{params_at}
 use Rattle.word_machine.specs.declared.code.CellShape.{CellShape}
 use Rattle.word_machine.specs.declared.code.Code.{Code}
@@ -32,11 +33,6 @@ fns_code starts params p (f ∷ fs) = fn_code starts params p f ++ fns_code star
 abbrev pub fn_starts : (ℕ → List ℕ) → ℕ → List Fn → List ℕ
 fn_starts params p [] = []
 fn_starts params p (f ∷ fs) = p ∷ fn_starts params (p + fn_len params f) fs
-
--- the words of all cells together
-abbrev pub words_in : List Cell → ℕ
-words_in [] = 0
-words_in (c ∷ cells) = c.width + words_in cells
 
 -- in, out and state cells have their words from the outside or give them to it
 abbrev pub is_outside : Role → Bool

@@ -25,23 +25,23 @@ steps_more : (n : ℕ) (instrs : List Slot) (limit : ℕ) (s : State) (cycles : 
     → steps n instrs limit s cycles ≡ steps (suc n) instrs limit s cycles
 steps_more zero instrs limit s cycles h =
     sym (ap (λ b. cond b (after (λ t. Short (cycles + cost_at instrs s.pc)) s.words (cycles + cost_at instrs s.pc) (step instrs s)) (Short cycles))
-      (lt-leb (cycles + cost_at instrs s.pc) limit (omega arith)))
+    (lt-leb (cycles + cost_at instrs s.pc) limit (omega arith)))
 steps_more (suc n) instrs limit s cycles h =
     cond_same (nat_le (cycles + cost_at instrs s.pc) limit) _ _ _
-      (λ fits. after_same _ _ s.words (cycles + cost_at instrs s.pc) (step instrs s)
-        (λ t e. steps_more n instrs limit t (cycles + cost_at instrs s.pc) (omega (arith, step_costs instrs s.pc))))
+    (λ fits. after_same _ _ s.words (cycles + cost_at instrs s.pc) (step instrs s)
+    (λ t e. steps_more n instrs limit t (cycles + cost_at instrs s.pc) (omega (arith, step_costs instrs s.pc))))
 
 -- an execution is its first step, if its cost keeps the limit, and what follows it
 pub exec_by_step : (instrs : List Slot) (limit : ℕ) (s : State) (cycles : ℕ)
     → exec_from instrs limit s cycles
-      ≡ cond (nat_le (cycles + cost_at instrs s.pc) limit)
-        (after (λ t. exec_from instrs limit t (cycles + cost_at instrs s.pc)) s.words (cycles + cost_at instrs s.pc) (step instrs s))
-        (Short cycles)
+    ≡ cond (nat_le (cycles + cost_at instrs s.pc) limit)
+    (after (λ t. exec_from instrs limit t (cycles + cost_at instrs s.pc)) s.words (cycles + cost_at instrs s.pc) (step instrs s))
+    (Short cycles)
 unfolding exec_from
 exec_by_step instrs limit s cycles =
     cond_same (nat_le (cycles + cost_at instrs s.pc) limit) _ _ _
-      (λ fits. after_same _ _ s.words (cycles + cost_at instrs s.pc) (step instrs s)
-        (λ t e. steps_more limit instrs limit t (cycles + cost_at instrs s.pc) (omega (arith, step_costs instrs s.pc))))
+    (λ fits. after_same _ _ s.words (cycles + cost_at instrs s.pc) (step instrs s)
+    (λ t e. steps_more limit instrs limit t (cycles + cost_at instrs s.pc) (omega (arith, step_costs instrs s.pc))))
 
 -- the next instruction would pass the limit
 pub exec_short : (instrs : List Slot) (limit : ℕ) (s : State) (cycles : ℕ) → limit < cycles + cost_at instrs s.pc
@@ -49,16 +49,16 @@ pub exec_short : (instrs : List Slot) (limit : ℕ) (s : State) (cycles : ℕ) �
 exec_short instrs limit s cycles past =
     exec_by_step instrs limit s cycles
     ∙ ap (λ b. cond b (after (λ t. exec_from instrs limit t (cycles + cost_at instrs s.pc)) s.words (cycles + cost_at instrs s.pc) (step instrs s)) (Short cycles))
-      (lt-leb (cycles + cost_at instrs s.pc) limit past)
+    (lt-leb (cycles + cost_at instrs s.pc) limit past)
 
 -- a step that keeps the limit, whatever it makes
 pub exec_fits : (instrs : List Slot) (limit : ℕ) (s : State) (cycles : ℕ) (next : Next) → cycles + cost_at instrs s.pc ≤ limit → step instrs s ≡ next
     → exec_from instrs limit s cycles
-      ≡ after (λ t. exec_from instrs limit t (cycles + cost_at instrs s.pc)) s.words (cycles + cost_at instrs s.pc) next
+    ≡ after (λ t. exec_from instrs limit t (cycles + cost_at instrs s.pc)) s.words (cycles + cost_at instrs s.pc) next
 exec_fits instrs limit s cycles next fits e =
     exec_by_step instrs limit s cycles
     ∙ ap (λ b. cond b (after (λ t. exec_from instrs limit t (cycles + cost_at instrs s.pc)) s.words (cycles + cost_at instrs s.pc) (step instrs s)) (Short cycles))
-      (le-leb (cycles + cost_at instrs s.pc) limit fits)
+    (le-leb (cycles + cost_at instrs s.pc) limit fits)
     ∙ ap (after (λ t. exec_from instrs limit t (cycles + cost_at instrs s.pc)) s.words (cycles + cost_at instrs s.pc)) e
 
 -- a step that goes on

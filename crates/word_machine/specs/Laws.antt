@@ -80,10 +80,10 @@ steps_within : (n : ℕ) (instrs : List Slot) (limit : ℕ) (s : State) (cycles 
 steps_within zero instrs limit s cycles le = le
 steps_within (suc n) instrs limit s cycles le =
     cond_is (λ e. spent e ≤ limit) (nat_le (cycles + cost_at instrs s.pc) limit) _ (Short cycles)
-      (λ fits. let fit : cycles + cost_at instrs s.pc ≤ limit = leb-true (cycles + cost_at instrs s.pc) limit fits in
-        after_is (λ e. spent e ≤ limit) (λ t. steps n instrs limit t (cycles + cost_at instrs s.pc)) s.words (cycles + cost_at instrs s.pc) (step instrs s)
-          (λ t. steps_within n instrs limit t (cycles + cost_at instrs s.pc) fit) fit fit)
-      le
+    (λ fits. let fit : cycles + cost_at instrs s.pc ≤ limit = leb-true (cycles + cost_at instrs s.pc) limit fits in
+    after_is (λ e. spent e ≤ limit) (λ t. steps n instrs limit t (cycles + cost_at instrs s.pc)) s.words (cycles + cost_at instrs s.pc) (step instrs s)
+    (λ t. steps_within n instrs limit t (cycles + cost_at instrs s.pc) fit) fit fit)
+    le
 
 -- an execution that is over took more cycles than it began with
 steps_later : (n : ℕ) (instrs : List Slot) (limit : ℕ) (s : State) (cycles : ℕ) → IsEnded (steps n instrs limit s cycles)
@@ -92,10 +92,10 @@ steps_later zero instrs limit s cycles = λ over. absurd over
 steps_later (suc n) instrs limit s cycles =
     let later : cycles < cycles + cost_at instrs s.pc = omega (arith, step_costs instrs s.pc) in
     cond_is (λ e. IsEnded e → cycles < spent e) (nat_le (cycles + cost_at instrs s.pc) limit) _ (Short cycles)
-      (λ fits. after_is (λ e. IsEnded e → cycles < spent e) (λ t. steps n instrs limit t (cycles + cost_at instrs s.pc)) s.words (cycles + cost_at instrs s.pc) (step instrs s)
-          (λ t over. let more : cycles + cost_at instrs s.pc < spent (steps n instrs limit t (cycles + cost_at instrs s.pc)) = steps_later n instrs limit t (cycles + cost_at instrs s.pc) over in omega arith)
-          (λ _. later) (λ _. later))
-      (λ over. absurd over)
+    (λ fits. after_is (λ e. IsEnded e → cycles < spent e) (λ t. steps n instrs limit t (cycles + cost_at instrs s.pc)) s.words (cycles + cost_at instrs s.pc) (step instrs s)
+    (λ t over. let more : cycles + cost_at instrs s.pc < spent (steps n instrs limit t (cycles + cost_at instrs s.pc)) = steps_later n instrs limit t (cycles + cost_at instrs s.pc) over in omega arith)
+    (λ _. later) (λ _. later))
+    (λ over. absurd over)
 
 -- two continuations that agree where the first is over
 follow_agree : (f g : State → End) (words : List ℤ) (cycles other : ℕ) (next : Next)
@@ -124,11 +124,11 @@ steps_agree (suc n) zero instrs limit other s cycles over fits h =
 steps_agree (suc n) (suc m) instrs limit other s cycles over fits h =
     let next = cycles + cost_at instrs s.pc in
     first_agree (nat_le next limit) _ _ cycles next other
-      (follow_agree (λ t. steps n instrs limit t next) (λ t. steps m instrs other t next) s.words next other (step instrs s)
-        (λ t o f.
-          let later : next < spent (steps n instrs limit t next) = steps_later n instrs limit t next o in
-          (omega arith, steps_agree n m instrs limit other t next o f (omega (arith, step_costs instrs s.pc)))))
-      over fits
+    (follow_agree (λ t. steps n instrs limit t next) (λ t. steps m instrs other t next) s.words next other (step instrs s)
+    (λ t o f.
+    let later : next < spent (steps n instrs limit t next) = steps_later n instrs limit t next o in
+    (omega arith, steps_agree n m instrs limit other t next o f (omega (arith, step_costs instrs s.pc)))))
+    over fits
 
 -- from a state: the cycles never pass the limit
 pub exec_within : (instrs : List Slot) (limit : ℕ) (s : State) (cycles : ℕ) → cycles ≤ limit → spent (exec_from instrs limit s cycles) ≤ limit

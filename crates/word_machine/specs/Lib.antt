@@ -10,4 +10,5 @@ pub mod Ready
 pub mod Runs
 pub mod State
 pub mod Step
+pub mod Tied
 pub mod Typing

@@ -35,4 +35,4 @@ pub record IsReady (a : Action) (s : State) : Type 0 where
 abbrev pub Acts : Action → Registers → Went → Registers → Type 0
 Acts a old went.On new = act_on a (state_of old) ≡ Goes (state_of new)
 Acts a old went.Ended new = (act_on a (state_of old) ≡ Ends) × (new ≡ old)
-Acts a old went.Broke new = act_on a (state_of old) ≡ Fails
+Acts a old went.Broke new = (act_on a (state_of old) ≡ Fails) × (length new.words ≡ length old.words)

@@ -1,6 +1,8 @@
 //! Code that meets the typing rules.
-ghost use Rattle.std.specs.Prelude.{◌≡◌};
+ghost use Rattle.std.specs.Prelude.{◌≡◌, ℤ, List, length};
+ghost use Rattle.word_machine.specs.Cells.{width_of, is_in, is_state};
 ghost use Rattle.word_machine.specs.Course.{NeverStuck};
+ghost use Rattle.word_machine.specs.Tied.{IsTied};
 ghost use Rattle.word_machine.specs.Typing.{IsVerified};
 
 use crate::Code;
@@ -33,11 +35,13 @@ impl Verified {
     }
 
     /// The code. It meets the typing rules, and so no step of it ever lacks an operand, a place, a counter,
-    /// a number to return to or an instruction.
+    /// a number to return to or an instruction, and its executions under a limit are its runs.
     pub fn code(&self) -> &Code
         ensures value { result.now ≡ self.now }
         ensures verified { IsVerified self.now }
         ensures never_stuck { NeverStuck self.now }
+        ensures tied { (state ins : List ℤ) → length state ≡ width_of is_state self.now.cells
+            → length ins ≡ width_of is_in self.now.cells → IsTied self.now state ins }
     {
         &self.code
     }

@@ -1,7 +1,8 @@
 use Rattle.mc_compile.proofs.Costs.{ex_costs}
 use Rattle.mc_compile.proofs.Lengths.{code_length}
 use Rattle.mc_compile.proofs.Placed.{placed_task}
+use Rattle.mc_compile.proofs.TypedTask.{typed_task}
 use Rattle.mc_compile.proofs.translation.Goals as goal
 
 pub returns : goal.returns
-returns c = record { stands = placed_task; size = code_length; costs = ex_costs }
+returns c = record { stands = placed_task; size = code_length; verified = typed_task; costs = ex_costs }
