@@ -2,8 +2,10 @@ pub mod Checked
 pub mod Counters
 pub mod Height
 pub mod Instance
+pub mod Lexeme
 pub mod Meaning
 pub mod Plain
 pub mod Sound
+pub mod Tokens
 pub mod Tree
 pub mod Worked

@@ -1,4 +1,7 @@
 pub mod Sizes
 pub mod Thin
-pub mod Spans
 pub mod Symbols
+pub mod Grammar
+pub mod Heading
+pub mod Machine
+pub mod Plain

@@ -2,6 +2,19 @@
 //! numbers.
 #![tactic(auto)]
 
+mod body;
+mod heading;
+mod read;
 mod symbol;
 
+pub use read::read_thin;
 pub use symbol::{Symbol, ThinOp};
+
+/// Why no tree was read.
+#[derive(Clone, Copy, Debug, PartialEq, Eq)]
+pub enum ThinFault {
+    /// The text is no thin task.
+    NotBuilt,
+    /// There was no memory.
+    Memory,
+}
