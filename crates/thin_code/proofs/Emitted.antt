@@ -1,5 +1,5 @@
 -- Lists of instructions, as they are made one after another.
-use Rattle.std.proofs.Common.{◌≡◌, ℕ, suc, ◌+◌, ◌*◌, ◌<◌, ◌≤◌, max, List, [], ◌∷◌, ◌++◌, length, drop, map, get_or, Option, Some, None, refl, sym, ap, ◌∙◌, subst, arith, append_assoc, add-one}
+use Rattle.std.proofs.Common.{◌≡◌, ℕ, suc, ◌+◌, ◌*◌, ◌<◌, ◌≤◌, max, List, [], ◌∷◌, ◌++◌, length, drop, map, get_or, Some, None, sym, ap, ◌∙◌, subst, arith, append_assoc, add-one}
 use Rattle.std.proofs.Math.Seq.{drop-cons}
 use Rattle.mars_base.specs.declared.word.BinOp.{BinOp}
 use Rattle.mc_tree.specs.declared.tree.Cell.{Cell}
@@ -9,7 +9,7 @@ use Rattle.mc_tree.specs.declared.tree.Stmt.{Stmt, map-Stmt, roll-Stmt, ind-Stmt
 use Rattle.mc_tree.specs.declared.tree.Stmt.TheOpen as S
 use Rattle.mc_tree.specs.declared.tree.Stmt.TheVariants.{Set, rolls-Set}
 use Rattle.mc_tree.specs.Plain.{plain_expr, plain_stmt, plain_list, st_of}
-use Rattle.mc_tree.specs.Tree.{Ex, Bin, St, Assign, Then, Bl}
+use Rattle.mc_tree.specs.Tree.{Ex, Bin, St, Assign, Then}
 use Rattle.mc_tree.proofs.Plain.{plain_binary}
 use Rattle.word_machine.specs.Cost.{cost_of}
 use Rattle.word_machine.specs.declared.code.Instr.{Instr}

@@ -1,29 +1,29 @@
 -- The code of thin assignments leads on: in always the same cycles, to the words that the assignments give.
-use Rattle.std.proofs.Common.{◌≡◌, ℕ, zero, suc, ◌+◌, ◌<◌, ◌≤◌, List, [], ◌∷◌, ◌++◌, length, ℤ, Option, Some, None, refl, sym, ap, ◌∙◌, subst, arith}
+use Rattle.std.proofs.Common.{◌≡◌, ℕ, zero, suc, ◌+◌, ◌<◌, ◌≤◌, List, [], ◌∷◌, length, ℤ, Option, Some, refl, sym, ap, ◌∙◌, subst, arith}
 use Rattle.std.specs.Prelude.{slice_get, slice_set}
 use Rattle.std.specs.Option.{option_map}
 use Rattle.std.proofs.lemmas.List.{length-set}
-use Rattle.mars_base.specs.Store.{word_at, or_zero}
+use Rattle.mars_base.specs.Store.{word_at}
 use Rattle.mars_base.specs.Word.{binary_of}
 use Rattle.mars_base.specs.declared.word.BinOp.{BinOp}
-use Rattle.mc_tree.specs.Meaning.{After, Done, value_of, both, with_value, then_do, does, all_do, Back}
+use Rattle.mc_tree.specs.Meaning.{Done, value_of, both, with_value, then_do, does, all_do, Back}
 use Rattle.mc_tree.specs.Tree.{Ex, Num, Var, Elem, Un, Bin, St, Assign, AssignAt, Invoke, When, Choice, Loop, Scoped, Count, Series, Bl, Nil, Then}
 use Rattle.mc_compile.specs.Coded.{Has, HasAll, CodedE, Coded, CodedB}
-use Rattle.mc_compile.specs.Cost.{costs_of, ex_cost, operator_cost}
+use Rattle.mc_compile.specs.Cost.{costs_of, ex_cost}
 use Rattle.mc_compile.specs.Translate.{slot, between, joined, ex_code}
 use Rattle.mc_compile.proofs.Costs.{costs_append, ex_costs}
 use Rattle.thin_reader.specs.Thin.{IsThinEx, IsThinSt, AreThin}
-use Rattle.word_machine.specs.Action.{Action, Combines, action_of}
+use Rattle.word_machine.specs.Action.{Combines, action_of}
 use Rattle.word_machine.specs.Cost.{cost_of}
-use Rattle.word_machine.specs.Execution.{End, exec_from}
-use Rattle.word_machine.specs.State.{State, at, Next, Goes, found, gives}
+use Rattle.word_machine.specs.Execution.{exec_from}
+use Rattle.word_machine.specs.State.{State, at, Goes, found, gives}
 use Rattle.word_machine.specs.Step.{act, instr_at, does as does_instr, step, cost_at, cost_or}
 use Rattle.word_machine.specs.declared.code.Instr.{Instr}
 use Rattle.word_machine.specs.declared.code.Instr.TheVariants.{Push, Load, Store}
 use Rattle.word_machine.specs.declared.code.Slot.{Slot}
 use Rattle.word_machine.proofs.Exec.{exec_goes}
 use Rattle.thin_code.specs.Straight.{assignment_code, assignments_code}
-use Rattle.thin_code.proofs.Operators.{IsOneInstr, one_instr}
+use Rattle.thin_code.proofs.Operators.{one_instr}
 
 -- a place within the words has a word
 pub word_there : (ws : List ℤ) (a : ℕ) → a < length ws → slice_get ws a ≡ Some (word_at ws a)
@@ -92,7 +92,7 @@ module _ (instrs : List Slot) where
       word = word_at ws a;
       value = refl;
       leads = one (slot (Load a) h) p q has st ws ks rs (word_at ws a ∷ st) ws
-        (ap (λ o. found o (λ w. Goes (at (p + 1) (w ∷ st) ws ks rs))) (word_there ws a (omega (arith, thin))));
+          (ap (λ o. found o (λ w. Goes (at (p + 1) (w ∷ st) ws ks rs))) (word_there ws a (omega (arith, thin))));
     }
     pushed (Elem a n i) h p q has thin st ws lengths = absurd thin
     pushed (Un op e) h p q has thin st ws lengths = absurd thin

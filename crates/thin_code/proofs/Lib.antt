@@ -4,3 +4,4 @@ pub mod Operators
 pub mod Ports
 pub mod Thin
 pub mod Typed
+pub mod WorkedThin

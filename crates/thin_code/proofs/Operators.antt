@@ -1,8 +1,7 @@
 -- Sums, differences and products: one instruction behind both operands, which always gives a word.
-use Rattle.std.proofs.Common.{◌≡◌, ℕ, ◌+◌, ◌≤◌, List, [], ◌∷◌, ℤ, Some, refl, sym, subst, arith, ◌⊎◌, inl, inr}
+use Rattle.std.proofs.Common.{◌≡◌, ℕ, ◌+◌, ◌≤◌, [], ◌∷◌, ℤ, Some, refl, sym, subst, arith, inl, inr}
 use Rattle.mars_base.specs.Word.{binary_of}
 use Rattle.mars_base.specs.declared.word.BinOp.{BinOp}
-use Rattle.mars_base.specs.declared.word.BinOp.TheVariants as two
 use Rattle.mc_tree.specs.Tree.{Ex, Num, Var, Elem, Un, Bin}
 use Rattle.mc_compile.specs.Cost.{operator_cost}
 use Rattle.mc_compile.specs.Translate.{slot, between, joined}

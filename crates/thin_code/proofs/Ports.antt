@@ -1,13 +1,13 @@
 -- The cells of a thin task: the code has the same, and they hold the same.
-use Rattle.std.proofs.Common.{◌≡◌, ℕ, zero, suc, ◌+◌, ◌-◌, ◌<◌, ◌≤◌, Bool, true, false, cond, List, [], ◌∷◌, ◌++◌, length, ℤ, pos, refl, sym, ap, ◌∙◌, subst, arith, Option, Some, None, ◌⊎◌, inl, inr}
-use Rattle.std.specs.Prelude.{map, filter, take, drop, replicate, slice_get, slice_index_or, All, count_by, ◌||◌}
-use Rattle.std.proofs.lemmas.List.{append-nil}
+use Rattle.std.proofs.Common.{◌≡◌, ℕ, zero, suc, ◌+◌, ◌≤◌, Bool, true, false, cond, List, [], ◌∷◌, ◌++◌, length, ℤ, pos, refl, ap, ◌∙◌, subst, arith, Some, ◌⊎◌, inl, inr}
+use Rattle.std.specs.Prelude.{map, filter, take, drop, replicate, slice_get, All, count_by, ◌||◌}
 use Rattle.std.proofs.lemmas.List.Sums.{count_by-le-length}
 use Rattle.mars_base.specs.declared.word.Role.{Role}
 use Rattle.mars_base.specs.declared.word.Role.TheVariants as role
 use Rattle.mc_tree.specs.declared.tree.Cell.{Cell}
 use Rattle.mc_tree.specs.Instance as tree
-use Rattle.mc_compile.specs.Whole.{words_in, is_outside, shape_of, shapes_of}
+use Rattle.mc_compile.specs.Whole.{is_outside, shape_of, shapes_of}
+use Rattle.mc_tree.specs.Checked.{words_in}
 use Rattle.thin_reader.specs.Thin.{IsPort}
 use Rattle.word_machine.specs.Cells as machine
 use Rattle.word_machine.specs.Typing.{WidthFits}
@@ -147,7 +147,7 @@ start_length [] ports state ins lengths = refl
 start_length (c ∷ cells) ports state ins lengths =
     ap (λ n. length (tree.cell_at_start c.role n (tree.words_at_start cells) state ins)) ports.0.1
     ∙ in_step c cells state ins (start_length cells ports.1) c.role ports.0.0
-      (lengths ∙ ap (λ n. cond (tree.is_in c.role) n 0 + tree.width_of tree.is_in cells) ports.0.1)
+    (lengths ∙ ap (λ n. cond (tree.is_in c.role) n 0 + tree.width_of tree.is_in cells) ports.0.1)
 
 width_fits : (r : Role) (n : ℕ) → (r ≡ role.In) ⊎ (r ≡ role.Out) → n ≡ 1 → WidthFits r n
 width_fits role.In n side one = (omega arith, omega arith)

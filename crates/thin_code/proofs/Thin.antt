@@ -1,27 +1,27 @@
 -- The code of thin tasks: what it is, that it is verified, and that it does what the task means.
-use Rattle.std.proofs.Common.{◌≡◌, ℕ, zero, suc, ◌+◌, ◌-◌, ◌*◌, ◌<◌, ◌≤◌, ◌^◌, List, [], ◌∷◌, ◌++◌, length, ℤ, pos, Option, Some, None, refl, sym, ap, ◌∙◌, subst, arith, length-append}
-use Rattle.std.specs.Prelude.{map, replicate, reverse, slice_get, slice_index, All, count_by, ◌||◌}
+use Rattle.std.proofs.Common.{◌≡◌, ℕ, zero, suc, ◌+◌, ◌-◌, ◌<◌, ◌≤◌, ◌^◌, List, [], ◌∷◌, ◌++◌, length, ℤ, pos, Some, refl, sym, ap, ◌∙◌, subst, arith, length-append}
+use Rattle.std.specs.Prelude.{map, replicate, reverse, slice_index, All, count_by, ◌||◌}
 use Rattle.std.specs.List.Sorted.{IsStrictlyIncreasing}
 use Rattle.std.proofs.lemmas.List.{append-nil}
 use Rattle.mc_tree.specs.Instance as tree
-use Rattle.mc_tree.specs.Meaning.{all_do, run_all, params_at, Done as Changes}
+use Rattle.mc_tree.specs.Meaning.{run_all, params_at}
 use Rattle.mc_tree.specs.Tree.{Ex, Num, Var, Elem, Un, Bin, St, Assign, AssignAt, Invoke, When, Choice, Loop, Scoped, Count, Series, Bl, Nil, Then, Fn, Tree}
-use Rattle.mc_compile.specs.Coded.{Has, CodedB, CodedFs, CodedTask}
+use Rattle.mc_compile.specs.Coded.{CodedFs, CodedTask}
 use Rattle.mc_compile.specs.Cost.{costs_of}
 use Rattle.mc_compile.specs.Translate.{slot, ex_len, ex_code, st_len, st_code, bl_code}
-use Rattle.mc_compile.specs.Whole.{fns_code, fn_starts, main_len, starts_of, words_in, shape_of, shapes_of, translate}
+use Rattle.mc_compile.specs.Whole.{fns_code, fn_starts, main_len, starts_of, shape_of, translate}
 use Rattle.mc_compile.proofs.Costs.{costs_append}
 use Rattle.mc_compile.proofs.Lengths.{ex_length}
 use Rattle.mc_compile.proofs.Placed.{placed_task}
 use Rattle.thin_reader.specs.Sizes.{nodes, assignment_length, assignments_length}
 use Rattle.thin_reader.specs.Thin.{IsThin, IsThinEx, IsThinSt, AreThin}
 use Rattle.word_machine.specs.Cells as machine
-use Rattle.word_machine.specs.Execution.{Ran, exec, exec_from, Stopped, Done, ran_of}
+use Rattle.word_machine.specs.Execution.{Ran, exec, exec_from, Done, ran_of}
 use Rattle.word_machine.specs.State.{at, Ends, found}
 use Rattle.word_machine.specs.Step.{instr_at, does, step, cost_at, cost_or}
 use Rattle.std.specs.Option.{option_map}
 use Rattle.std.proofs.lemmas.Option.{slice_get_within}
-use Rattle.word_machine.specs.Typing.{IsVerified, IsTypedAt, WidthFits, height_at}
+use Rattle.word_machine.specs.Typing.{IsVerified, WidthFits}
 use Rattle.word_machine.specs.declared.code.CellShape.{CellShape}
 use Rattle.word_machine.specs.declared.code.Code.{Code}
 use Rattle.word_machine.specs.declared.code.Instr.TheVariants.{Store, Halt}
@@ -32,10 +32,10 @@ use Rattle.thin_code.specs.Follows.{Matches, Follows}
 use Rattle.thin_code.specs.Straight.{assignment_code, assignments_code}
 use Rattle.thin_code.specs.Widths.{HasWidths}
 use Rattle.thin_code.proofs.Emitted.{costs_most}
-use Rattle.thin_code.proofs.Leads.{Leads, Changed, changed}
+use Rattle.thin_code.proofs.Leads.{changed}
 use Rattle.thin_code.proofs.Operators.{one_instr}
 use Rattle.thin_code.proofs.Ports.{ArePorts, are_ports, shapes_all, words_ports, total_shapes, width_in, width_out, width_state, stateless, width_ports, start_same, start_length, outs_same, state_same, widths_fit, ports_few}
-use Rattle.thin_code.proofs.Typed.{AreTyped, has_height, head_b, joins, typed_b, typed_halt}
+use Rattle.thin_code.proofs.Typed.{has_height, head_b, joins, typed_b, typed_halt}
 
 st_flat : (starts : ℕ → ℕ) (params : ℕ → List ℕ) (n p : ℕ) (s : St) → IsThinSt n s → st_code starts params p s ≡ assignment_code s
 st_flat starts params n p (Assign a e) thin = refl
@@ -102,7 +102,7 @@ thin_places t thin = words_ports t.cells (thin_ports t thin)
 code_same : (starts starts' : List ℕ) (instrs instrs' : List Slot) (places places' counters counters' : ℕ) (cells cells' : List CellShape)
     → starts ≡ starts' → instrs ≡ instrs' → places ≡ places' → counters ≡ counters' → cells ≡ cells'
     → (let c : Code = record { starts = starts; instrs = instrs; places = places; counters = counters; cells = cells } in c)
-      ≡ record { starts = starts'; instrs = instrs'; places = places'; counters = counters'; cells = cells' }
+    ≡ record { starts = starts'; instrs = instrs'; places = places'; counters = counters'; cells = cells' }
 code_same starts starts' instrs instrs' places places' counters counters' cells cells' s i p k c = cc
 
 -- code with these parts is the translation
@@ -110,7 +110,7 @@ pub thin_code : (t : Tree) → IsThin t → (code : Code) → code.starts ≡ 0 
     → code.places ≡ length t.cells → code.counters ≡ t.counters → code.cells ≡ map shape_of t.cells → code ≡ translate t
 thin_code t thin code starts instrs places counters cells =
     code_same _ _ _ _ _ _ _ _ _ _ (starts ∙ sym (thin_starts t thin)) (instrs ∙ sym (thin_instrs t thin)) (places ∙ sym (thin_places t thin)) counters
-      (cells ∙ sym (thin_cells t thin))
+    (cells ∙ sym (thin_cells t thin))
 
 thin_length : (t : Tree) → IsThin t → length (translate t).instrs ≡ assignments_length t.body + 1
 thin_length t thin =
@@ -136,8 +136,8 @@ thin_verified t thin =
     let begins = head_b code.instrs firsts params n t.body 0 stands.halt stands.body thin.assignments end in
     let places = thin_places t thin in
     let each = joins code n starts begins places 0 stands.halt stands.functions
-      (typed_b code n starts begins places firsts params t.body 0 stands.halt stands.body thin.assignments end)
-      (typed_halt code n starts begins places stands.halt stands.functions stands.stop) in
+    (typed_b code n starts begins places firsts params t.body 0 stands.halt stands.body thin.assignments end)
+    (typed_halt code n starts begins places stands.halt stands.functions stands.stop) in
     record {
       whole = record {
         some = omega (arith, thin_length t thin);
@@ -206,10 +206,10 @@ thin_exact t thin state ins states_are ins_are limit fits =
     let left = ap (λ l. machine.cell_words machine.is_state l work.words) (thin_cells t thin) ∙ state_same t.cells work.words in
     let outs = ap (λ l. machine.cell_words machine.is_out l work.words) (thin_cells t thin) ∙ outs_same t.cells work.words in
     done_in (costs_of code.instrs) (tree.instance_of t state ins) (exec code limit state ins) (tree.words_of tree.is_state t.cells work.words) (tree.words_of tree.is_out t.cells work.words)
-      (ap (tree.ended t.cells) work.does_so)
-      (ap (ran_of code) run_is ∙ ap (λ l. Done l (machine.cell_words machine.is_out code.cells work.words) (0 + n + cost_at code.instrs stands.halt)) left
-        ∙ ap (λ l. Done (tree.words_of tree.is_state t.cells work.words) l (0 + n + cost_at code.instrs stands.halt)) outs
-        ∙ ap (λ k. Done (tree.words_of tree.is_state t.cells work.words) (tree.words_of tree.is_out t.cells work.words) k) cycles)
+    (ap (tree.ended t.cells) work.does_so)
+    (ap (ran_of code) run_is ∙ ap (λ l. Done l (machine.cell_words machine.is_out code.cells work.words) (0 + n + cost_at code.instrs stands.halt)) left
+    ∙ ap (λ l. Done (tree.words_of tree.is_state t.cells work.words) l (0 + n + cost_at code.instrs stands.halt)) outs
+    ∙ ap (λ k. Done (tree.words_of tree.is_state t.cells work.words) (tree.words_of tree.is_out t.cells work.words) k) cycles)
 
 -- what is done in so many cycles does what the instance does within them
 done_matches : (cycles : ℕ) (o : tree.Outcome) (r : Ran) → IsDoneIn cycles o r → Matches o r cycles

@@ -1,23 +1,22 @@
 -- The code of a thin task meets the typing rules.
-use Rattle.std.proofs.Common.{◌≡◌, ℕ, zero, suc, ◌+◌, ◌-◌, ◌<◌, ◌≤◌, Bool, true, false, List, [], ◌∷◌, ◌++◌, length, Option, Some, None, refl, sym, ap, ◌∙◌, subst, arith, ◌⊎◌, inl, inr}
-use Rattle.std.specs.Prelude.{slice_get, slice_index_or, nat_le, Contains, count_by}
+use Rattle.std.proofs.Common.{◌≡◌, ℕ, zero, suc, ◌+◌, ◌-◌, ◌<◌, ◌≤◌, Bool, true, false, List, [], ◌∷◌, length, Option, Some, None, refl, sym, ap, ◌∙◌, subst, arith, inl, inr}
+use Rattle.std.specs.Prelude.{slice_get, slice_index_or, nat_le, Contains}
 use Rattle.std.specs.Option.{option_map}
 use Rattle.std.proofs.lemmas.Bool.{leb-true, leb-false}
 use Rattle.std.proofs.lemmas.List.Sums.{count_by-le-length}
 use Rattle.std.proofs.lemmas.Option.{slice_get_within}
 use Rattle.mc_tree.specs.Tree.{Ex, Num, Var, Elem, Un, Bin, St, Assign, AssignAt, Invoke, When, Choice, Loop, Scoped, Count, Series, Bl, Nil, Then}
-use Rattle.mc_compile.specs.Coded.{Has, HasAll, CodedE, Coded, CodedB}
+use Rattle.mc_compile.specs.Coded.{Has, CodedE, Coded, CodedB}
 use Rattle.mc_compile.specs.Translate.{slot, between, joined}
 use Rattle.thin_reader.specs.Sizes.{operand_words}
 use Rattle.thin_reader.specs.Thin.{IsThinEx, IsThinSt, AreThin}
-use Rattle.word_machine.specs.Action.{Action, Pushes, Loads, Stores, Combines, Stops, action_of}
-use Rattle.word_machine.specs.Typing.{IsTypedAt, IsLast, FlowsOn, JumpFits, PlacesFit, CounterFits, CallFits, EndFits, EndsRoutine, height_at, height_after, routine_of, pops_of, pushes_of}
+use Rattle.word_machine.specs.Action.{Action, Pushes, Loads, Stores, Combines, action_of}
+use Rattle.word_machine.specs.Typing.{IsTypedAt, IsLast, JumpFits, PlacesFit, CounterFits, CallFits, EndFits, height_at, routine_of, pops_of, pushes_of}
 use Rattle.word_machine.specs.declared.code.Code.{Code}
-use Rattle.word_machine.specs.declared.code.Instr.{Instr}
 use Rattle.word_machine.specs.declared.code.Instr.TheVariants.{Push, Load, Store, Halt}
 use Rattle.word_machine.specs.declared.code.Slot.{Slot}
 use Rattle.thin_code.proofs.Leads.{alone, none_there}
-use Rattle.thin_code.proofs.Operators.{IsOneInstr, one_instr, words_some}
+use Rattle.thin_code.proofs.Operators.{one_instr, words_some}
 
 -- the one start is 0
 abbrev only_zero : List ℕ
@@ -127,10 +126,10 @@ module _ (code : Code) (cells : ℕ) (one_start : code.starts ≡ 0 ∷ []) (beg
   pub typed_e : (e : Ex) (h p q : ℕ) → CodedE code.instrs h p e q → IsThinEx cells e → h + operand_words e ≤ 64 → height_at code.instrs q ≡ Some (h + 1) → AreTyped p q
   typed_e (Num w) h p q has thin room end =
       one (slot (Push w) h) p q has
-        (typed_by p (slot (Push w) h) (Pushes w) has.here refl (omega arith) (omega arith) (omega arith) (next_at p q (h + 1) _ has.next (omega arith) end) tt tt tt tt tt)
+      (typed_by p (slot (Push w) h) (Pushes w) has.here refl (omega arith) (omega arith) (omega arith) (next_at p q (h + 1) _ has.next (omega arith) end) tt tt tt tt tt)
   typed_e (Var a) h p q has thin room end =
       one (slot (Load a) h) p q has
-        (typed_by p (slot (Load a) h) (Loads a) has.here refl (omega arith) (omega arith) (omega arith) (next_at p q (h + 1) _ has.next (omega arith) end) tt (omega (arith, thin, places)) tt tt tt)
+      (typed_by p (slot (Load a) h) (Loads a) has.here refl (omega arith) (omega arith) (omega arith) (next_at p q (h + 1) _ has.next (omega arith) end) tt (omega (arith, thin, places)) tt tt tt)
   typed_e (Elem a n i) h p q has thin room end = absurd thin
   typed_e (Un op e) h p q has thin room end = absurd thin
   typed_e (Bin op l r) h p q has thin room end =
@@ -145,7 +144,7 @@ module _ (code : Code) (cells : ℕ) (one_start : code.starts ≡ 0 ∷ []) (beg
       let right = typed_e r (h + 1) has.1 has.2 has.5 thin.2 (omega (arith, room)) after in
       let high : h + 2 ≤ 64 = omega (arith, room, words_some r) in
       let last = one s has.2 q op_has
-        (typed_by has.2 s (Combines op) op_has.here i.acts high (omega arith) (omega (arith, high)) (next_at has.2 q (h + 1) _ op_has.next (omega arith) end) tt tt tt tt tt) in
+      (typed_by has.2 s (Combines op) op_has.here i.acts high (omega arith) (omega (arith, high)) (next_at has.2 q (h + 1) _ op_has.next (omega arith) end) tt tt tt tt tt) in
       joins p has.0 q left (subst (λ n. AreTyped n q) (sym skip) (joins has.1 has.2 q right last))
 
   module _ (starts : ℕ → ℕ) (params : ℕ → List ℕ) where
@@ -154,7 +153,7 @@ module _ (code : Code) (cells : ℕ) (one_start : code.starts ≡ 0 ∷ []) (beg
         let s = slot (Store a) 1 in
         let value = typed_e e 0 p has.0 has.1 thin.1.thin (omega (arith, thin.1.shallow)) (has_height code.instrs has.0 q s has.2 ∙ (let zero_up : 1 ≡ 0 + 1 = omega arith in ap Some zero_up)) in
         let last = one s has.0 q has.2
-          (typed_by has.0 s (Stores a) has.2.here refl (omega arith) (omega arith) (omega arith) (next_at has.0 q 0 _ has.2.next (omega arith) end) tt (omega (arith, thin.0, places)) tt tt tt) in
+        (typed_by has.0 s (Stores a) has.2.here refl (omega arith) (omega arith) (omega arith) (next_at has.0 q 0 _ has.2.next (omega arith) end) tt (omega (arith, thin.0, places)) tt tt tt) in
         joins p has.0 q value last
     typed_s (AssignAt a n i e) p q has thin end = absurd thin
     typed_s (Invoke a g args) p q has thin end = absurd thin
@@ -169,8 +168,8 @@ module _ (code : Code) (cells : ℕ) (one_start : code.starts ≡ 0 ∷ []) (beg
     typed_b Nil p q has thin end = λ k s low high here. absurd (omega (arith, has))
     typed_b (Then s b) p q has thin end =
         joins p has.0 q
-          (typed_s s p has.0 has.1 thin.0 (head_b code.instrs starts params cells b has.0 q has.2 thin.1 end))
-          (typed_b b has.0 q has.2 thin.1 end)
+        (typed_s s p has.0 has.1 thin.0 (head_b code.instrs starts params cells b has.0 q has.2 thin.1 end))
+        (typed_b b has.0 q has.2 thin.1 end)
 
   one_routine : (k : ℕ) → routine_of code.starts k ≡ 0
   one_routine k = omega (arith, count_by-le-length (λ start. nat_le start k) code.starts, ap length one_start)

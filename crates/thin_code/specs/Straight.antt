@@ -1,5 +1,5 @@
 -- The code of assignments. It has no jump, and so is the same wherever it stands. This project's own.
-use Rattle.std.specs.Prelude.{ℕ, List, [], ◌∷◌, ◌++◌}
+use Rattle.std.specs.Prelude.{List, [], ◌∷◌, ◌++◌}
 use Rattle.mc_tree.specs.Tree.{St, Assign, AssignAt, Invoke, When, Choice, Loop, Scoped, Count, Series, Bl, Nil, Then}
 use Rattle.word_machine.specs.declared.code.Instr.TheVariants.{Store}
 use Rattle.word_machine.specs.declared.code.Slot.{Slot}

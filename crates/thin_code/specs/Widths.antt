@@ -1,5 +1,5 @@
 -- How many words code takes and gives beside its tree. This project's own.
-use Rattle.std.specs.Prelude.{◌≡◌, ℕ, ◌+◌, ◌≤◌}
+use Rattle.std.specs.Prelude.{◌≡◌, ◌+◌, ◌≤◌}
 use Rattle.mc_tree.specs.Instance.{is_in, is_out, is_state, width_of}
 use Rattle.mc_tree.specs.Tree.{Tree}
 use Rattle.word_machine.specs.Cells as machine

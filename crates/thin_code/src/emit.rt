@@ -47,12 +47,7 @@ fn operator(op: BinOp) -> Instr
 
 // The instructions of an expression behind `height` operands.
 #[tactic(auto, using(mc_tree::proofs::Plain::plain_rules))]
-fn emit_expr(
-    code: &mut Items<Slot>,
-    cells: &[Cell],
-    expr: &Expr,
-    height: u8,
-) -> Result<(), Memory>
+fn emit_expr(code: &mut Items<Slot>, cells: &[Cell], expr: &Expr, height: u8) -> Result<(), Memory>
     requires thin { IsThinEx (length cells.now) (plain_expr cells.now expr.now) }
     requires room { height + operand_words (plain_expr cells.now expr.now) ≤ 64 }
     ensures { OnOk result (code.new ≡ code.old ++ ex_code height (plain_expr cells.now expr.now)) }

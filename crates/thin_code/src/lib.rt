@@ -13,6 +13,8 @@ ghost use Rattle.thin_code.specs.Widths.{HasWidths};
 ghost use Rattle.thin_reader.specs.Thin.{IsThin};
 
 mod emit;
+#[cfg(test)]
+mod tests;
 
 use mars_base::Memory;
 use mc_tree::Task;

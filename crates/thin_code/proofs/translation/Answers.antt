@@ -13,6 +13,6 @@ returns c =
     let task = c.args.task.now in
     let cells = c.as_slice-cells.ensures in
     thin_code (plain_task task) c.requires _ c.in_ok-starts.ensures
-      (c.in_ok-instrs.ensures ∙ ap (λ l. assignments_code (plain_list l c.as_slice.result.now) ++ slot Halt 0 ∷ []) cells
-        ∙ ap (λ l. assignments_code (plain_list task.cells l) ++ slot Halt 0 ∷ []) c.as_slice.ensures)
-      (ap length cells) refl (c.in_ok-shapes.ensures ∙ ap (map shape_of) cells)
+    (c.in_ok-instrs.ensures ∙ ap (λ l. assignments_code (plain_list l c.as_slice.result.now) ++ slot Halt 0 ∷ []) cells
+    ∙ ap (λ l. assignments_code (plain_list task.cells l) ++ slot Halt 0 ∷ []) c.as_slice.ensures)
+    (ap length cells) refl (c.in_ok-shapes.ensures ∙ ap (map shape_of) cells)

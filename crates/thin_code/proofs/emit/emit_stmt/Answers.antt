@@ -10,4 +10,4 @@ unreachable-requires c = only_set _ c.args.cells.now c.args.stmt.now c.requires 
 pub returns : goal.returns
 returns c =
     set_emitted _ _ _ _ _ _ _ (ap (plain_stmt c.args.cells.now) c.in-Set.is ∙ plain_set c.args.cells.now c.in-Set.cell c.in-Set.value) c.place.ensures
-      c.in_ok-emit_expr-in-Set.ensures c.in_ok-put-in-Set.ensures
+    c.in_ok-emit_expr-in-Set.ensures c.in_ok-put-in-Set.ensures
