@@ -11,6 +11,7 @@ use Rattle.word_machine.specs.declared.code.Slot.{Slot}
 use Rattle.mc_compile.specs.Translate.{slot, unary_instr, between, joined, ex_code, args_code, stores_code}
 use Rattle.mc_compile.specs.Cost.{costs_of, operator_cost, ex_cost, args_cost}
 
+-- the costs of one list behind another
 pub costs_append : (a b : List Slot) → costs_of (a ++ b) ≡ costs_of a + costs_of b
 costs_append [] b = omega arith
 costs_append (s ∷ a) b = omega (arith, costs_append a b)
@@ -36,11 +37,13 @@ operator_costs Mul h = refl
 operator_costs Div h = refl
 operator_costs Rem h = refl
 
+-- each operator of one word costs 1
 unary_cost : (op : UnOp) → cost_of (unary_instr op) ≡ 1
 unary_cost one.Neg = refl
 unary_cost one.Not = refl
 unary_cost one.Inv = refl
 
+-- an expression
 pub ex_costs : (h : ℕ) (e : Ex) → costs_of (ex_code h e) ≡ ex_cost e
 ex_costs h (Num w) = refl
 ex_costs h (Var a) = refl
@@ -51,11 +54,13 @@ ex_costs h (Bin op l r) =
     let right = ex_code (h + 1) r ++ joined op h in
     omega (arith, costs_append (ex_code h l) (between op h ++ right), costs_append (between op h) right, costs_append (ex_code (h + 1) r) (joined op h), ex_costs h l, ex_costs (h + 1) r, operator_costs op h)
 
+-- arguments
 pub args_costs : (h : ℕ) (es : List Ex) → costs_of (args_code h es) ≡ args_cost es
 args_costs h [] = refl
 args_costs h (e ∷ es) =
     omega (arith, costs_append (ex_code h e) (args_code (h + 1) es), ex_costs h e, args_costs (h + 1) es)
 
+-- the stores of parameters, of 2 each
 pub stores_costs : (h : ℕ) (xs : List ℕ) → costs_of (stores_code h xs) ≡ 2 * length xs
 stores_costs h [] = refl
 stores_costs h (x ∷ xs) =

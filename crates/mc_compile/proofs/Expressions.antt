@@ -1,5 +1,5 @@
 -- The code of an expression puts its word onto the stack, or breaks where it has none.
-use Rattle.std.proofs.Common.{◌≡◌, ℕ, zero, suc, ◌+◌, ◌<◌, ◌≤◌, Bool, true, false, ℤ, List, [], ◌∷◌, length, Option, Some, None, refl, sym, ap, ◌∙◌, subst, arith}
+use Rattle.std.proofs.Common.{◌≡◌, ℕ, ◌+◌, ◌<◌, ◌≤◌, Bool, true, false, ℤ, List, [], ◌∷◌, length, Option, Some, None, refl, sym, ap, ◌∙◌, subst, arith}
 use Rattle.std.specs.Prelude.{pos, negsuc, not, int_lt, int_le, nat_lt, if◌then◌else◌, slice_get, slice_set, All}
 use Rattle.std.specs.Int.{w32, int_bit_or}
 use Rattle.std.specs.Option.{option_map}
@@ -13,17 +13,17 @@ use Rattle.mars_base.specs.declared.word.BinOp.TheVariants as two
 use Rattle.mars_base.specs.declared.word.UnOp.{UnOp}
 use Rattle.mars_base.specs.declared.word.UnOp.TheVariants as one
 use Rattle.mars_base.specs.Store.{or_zero, word_at, place_of}
-use Rattle.mars_base.specs.Word.{truth_of, is_zero, binary_of, unary_of}
+use Rattle.mars_base.specs.Word.{truth_of, binary_of, unary_of}
 use Rattle.mc_tree.specs.declared.tree.Cell.{Cell}
 use Rattle.mc_tree.specs.Tree.{Ex, Num, Var, Elem, Un, Bin}
 use Rattle.mc_tree.specs.Meaning.{then_word, elem_at, both, value_of}
 use Rattle.mc_tree.specs.Sound.{IsCell, SoundE}
-use Rattle.word_machine.specs.Action.{Action, Combines, Changes, action_of}
-use Rattle.word_machine.specs.Runs.{Out, Halted, Broken, Run, ends, breaks, goes}
-use Rattle.word_machine.specs.State.{State, at, Next, Goes, Ends, Fails, Stuck, found, gives}
-use Rattle.word_machine.specs.Step.{act, instr_at, does, step}
+use Rattle.word_machine.specs.Action.{Combines, Changes, action_of}
+use Rattle.word_machine.specs.Runs.{Out, Broken, Run, breaks, goes}
+use Rattle.word_machine.specs.State.{State, at, Goes, found, gives}
+use Rattle.word_machine.specs.Step.{act, does, step}
 use Rattle.word_machine.specs.declared.code.Instr.{Instr}
-use Rattle.word_machine.specs.declared.code.Instr.TheVariants.{Push, Load, LoadX, Add, Sub, Mul, Div, Rem, And, Or, Xor, Shl, Shr, Eq, Lt, Le, Neg, Not, Inv}
+use Rattle.word_machine.specs.declared.code.Instr.TheVariants.{Add, Sub, Mul, Div, Rem, And, Or, Xor, Shl, Shr, Eq, Lt, Le, Neg, Not, Inv}
 use Rattle.word_machine.specs.declared.code.Slot.{Slot}
 use Rattle.mc_compile.specs.Translate.{slot, unary_instr, between, negated, joined}
 use Rattle.mc_compile.specs.Coded.{Has, HasAll, CodedE}
@@ -35,17 +35,20 @@ pub record AreWords (n : ℕ) (ws : List ℤ) : Type 0 where
   pub len : length ws ≡ n
   pub words : All IsWord ws
 
+-- the word at a place that there is
 pub word_there : (n : ℕ) (ws : List ℤ) (a : ℕ) → AreWords n ws → a < n → slice_get ws a ≡ Some (word_at ws a)
 word_there n ws a are lt =
     let e = slice_get-get_or ws a (pos 0) (omega (arith, are.len)) in
     e ∙ ap Some (sym (ap or_zero e))
 
+-- it is one of 32 bits
 pub word_fits : (n : ℕ) (ws : List ℤ) (a : ℕ) → AreWords n ws → a < n → IsWord (word_at ws a)
 word_fits n ws a are lt =
     let inside : a < length ws = omega (arith, are.len) in
     let e = slice_get-get_or ws a (pos 0) inside in
     subst IsWord (sym (ap or_zero e)) (are.words a (pos 0) inside)
 
+-- a word is put to a place
 pub set_words : (n : ℕ) (ws : List ℤ) (a : ℕ) (v : ℤ) → AreWords n ws → IsWord v → AreWords n (slice_set ws a v)
 set_words n ws a v are f = record { len = length-set ws a v ∙ are.len; words = All-set IsWord ws a v f are.words }
 
@@ -63,9 +66,11 @@ module _ (instrs : List Slot) where
   pub record Leads (s t : State) : Type 0 where
     pub by : (o : Out) → Run instrs t o → Run instrs s o
 
+  -- no step
   pub stays : (s : State) → Leads s s
   stays s = record { by = λ o r. r }
 
+  -- one stretch after another
   pub on : (s t u : State) → Leads s t → Leads t u → Leads s u
   on s t u a b = record { by = λ o r. a.by o (b.by o r) }
 
@@ -74,11 +79,13 @@ module _ (instrs : List Slot) where
   Gives s t None = Run instrs s Broken
   Gives s t (Some v) = IsWord v × Leads s (t v)
 
+  -- a stretch before
   pub before : (s u : State) (o : Option ℤ) (t : ℤ → State) → Leads s u → Gives u t o → Gives s t o
   before s u None t a g = a.by Broken g
   before s u (Some v) t a g = (g.0, on s u (t v) a g.1)
 
 module _ (instrs : List Slot) (rs : List ℕ) where
+  -- a state, where the calls do not change
   abbrev here : ℕ → List ℤ → List ℤ → List ℕ → State
   here p st ws ks = at p st ws ks rs
 
@@ -91,6 +98,7 @@ module _ (instrs : List Slot) (rs : List ℕ) where
   next p q s st ws st' ws' ks ks' c e =
       record { by = λ o r. goes (one_step p q s st ws ks c ∙ e ∙ ap (λ n. Goes (here n st' ws' ks')) c.next) r }
 
+  -- an instruction with two operands
   combine : (i : Instr) (op : BinOp) (h p q : ℕ) (x y : ℤ) (st ws : List ℤ) (ks : List ℕ) → action_of i ≡ Combines op → Has instrs p (slot i h) q → IsWord x → IsWord y → Gives instrs (here p (y ∷ x ∷ st) ws ks) (λ v. here q (v ∷ st) ws ks) (binary_of op x y)
   combine i op h p q x y st ws ks is c f g = go (binary_of op x y) refl
     where
@@ -101,9 +109,11 @@ module _ (instrs : List Slot) (rs : List ℕ) where
       go None e = breaks (stepped ∙ ap (λ o. gives o (λ w. Goes (here (p + 1) (w ∷ st) ws ks))) e)
       go (Some v) e = (binary_word op x y v f g e, next p q (slot i h) (y ∷ x ∷ st) ws (v ∷ st) ws ks ks c (ap (λ a. act a p (y ∷ x ∷ st) ws ks rs) is ∙ ap (λ o. gives o (λ w. Goes (here (p + 1) (w ∷ st) ws ks))) e))
 
+  -- an instruction with one operand
   change : (i : Instr) (op : UnOp) (h p q : ℕ) (x : ℤ) (st ws : List ℤ) (ks : List ℕ) → action_of i ≡ Changes op → Has instrs p (slot i h) q → Leads instrs (here p (x ∷ st) ws ks) (here q (unary_of op x ∷ st) ws ks)
   change i op h p q x st ws ks is c = next p q (slot i h) (x ∷ st) ws (unary_of op x ∷ st) ws ks ks c (ap (λ a. act a p (x ∷ st) ws ks rs) is)
 
+  -- an operator of one word
   unary_run : (op : UnOp) (h p q : ℕ) (x : ℤ) (st ws : List ℤ) (ks : List ℕ) → Has instrs p (slot (unary_instr op) h) q → Leads instrs (here p (x ∷ st) ws ks) (here q (unary_of op x ∷ st) ws ks)
   unary_run one.Neg h p q x st ws ks c = change Neg one.Neg h p q x st ws ks refl c
   unary_run one.Not h p q x st ws ks c = change Not one.Not h p q x st ws ks refl c
@@ -114,13 +124,16 @@ module _ (instrs : List Slot) (rs : List ℕ) where
   left_word two.And x = unary_of one.Not x
   left_word _ x = x
 
-  same_place : (p q : ℕ) (st ws : List ℤ) (ks : List ℕ) → p ≡ q → Leads instrs (here p st ws ks) (here q st ws ks)
+  -- no instruction between
+  pub same_place : (p q : ℕ) (st ws : List ℤ) (ks : List ℕ) → p ≡ q → Leads instrs (here p st ws ks) (here q st ws ks)
   same_place p q st ws ks e = record { by = λ o r. subst (λ n. Run instrs (here n st ws ks) o) (sym e) r }
 
+  -- what stands between the operands
   between_run : (op : BinOp) (h p q : ℕ) (x : ℤ) (st ws : List ℤ) (ks : List ℕ) → HasAll instrs p (between op h) q → Leads instrs (here p (x ∷ st) ws ks) (here q (left_word op x ∷ st) ws ks)
   between_run two.And h p q x st ws ks c = change Not one.Not (h + 1) p q x st ws ks refl (only instrs (slot Not (h + 1)) p q c)
   between_run _ h p q x st ws ks c = same_place p q (x ∷ st) ws ks c
 
+  -- an operator that is one instruction
   single : (i : Instr) (op : BinOp) (h p q : ℕ) (x y : ℤ) (st ws : List ℤ) (ks : List ℕ) → action_of i ≡ Combines op → HasAll instrs p (slot i h ∷ []) q → IsWord x → IsWord y → Gives instrs (here p (y ∷ x ∷ st) ws ks) (λ v. here q (v ∷ st) ws ks) (binary_of op x y)
   single i op h p q x y st ws ks is c f g = combine i op h p q x y st ws ks is (only instrs (slot i h) p q c) f g
 
@@ -133,6 +146,7 @@ module _ (instrs : List Slot) (rs : List ℕ) where
       let result : unary_of one.Not (truth_of b) ≡ truth_of d = not_truth b ∙ ap truth_of e in
       (subst IsWord result (unary_word one.Not (truth_of b)), on instrs _ _ _ known.1 (subst (λ v. Leads instrs (here c.0 (truth_of b ∷ st) ws ks) (here q (v ∷ st) ws ks)) result turned))
 
+  -- what stands behind both operands
   joined_run : (op : BinOp) (h p q : ℕ) (x y : ℤ) (st ws : List ℤ) (ks : List ℕ) → HasAll instrs p (joined op h) q → IsWord x → IsWord y → Gives instrs (here p (y ∷ left_word op x ∷ st) ws ks) (λ v. here q (v ∷ st) ws ks) (binary_of op x y)
   joined_run two.Or h p q x y st ws ks c f g =
       let first = combine Or two.BitOr (h + 2) p c.0 x y st ws ks refl c.1 f g in
@@ -165,6 +179,7 @@ module _ (instrs : List Slot) (rs : List ℕ) where
   joined_run two.Div h p q x y st ws ks c f g = single Div two.Div (h + 2) p q x y st ws ks refl c f g
   joined_run two.Rem h p q x y st ws ks c f g = single Rem two.Rem (h + 2) p q x y st ws ks refl c f g
 
+  -- both operands, what stands between them, and what stands behind them
   both_run : (op : BinOp) (s : State) (h p1 p2 p3 q : ℕ) (st ws : List ℤ) (ks : List ℕ) (oa ob : Option ℤ) → HasAll instrs p1 (between op h) p2 → HasAll instrs p3 (joined op h) q
       → Gives instrs s (λ x. here p1 (x ∷ st) ws ks) oa → ((x : ℤ) → Gives instrs (here p2 (x ∷ st) ws ks) (λ y. here p3 (y ∷ x ∷ st) ws ks) ob) → Gives instrs s (λ v. here q (v ∷ st) ws ks) (both (binary_of op) oa ob)
   both_run op s h p1 p2 p3 q st ws ks None ob m j ra rb = ra
@@ -175,6 +190,7 @@ module _ (instrs : List Slot) (rs : List ℕ) where
       before instrs s u (binary_of op x y) _ (on instrs s _ u ra.1 (on instrs _ _ u (between_run op h p1 p2 x st ws ks m) right.1)) (joined_run op h p3 q x y st ws ks j ra.0 right.0)
 
   module _ (cells : List Cell) (n : ℕ) (fits : (p w : ℕ) → IsCell cells p w → p + w ≤ n) where
+    -- an expression over n words, of which its cells are some
     pub expr_runs : (e : Ex) (h p q : ℕ) (st ws : List ℤ) (ks : List ℕ) → CodedE instrs h p e q → SoundE cells e → AreWords n ws → Gives instrs (here p st ws ks) (λ v. here q (v ∷ st) ws ks) (value_of e ws)
     expr_runs (Num w) h p q st ws ks c sound are = (sound, next p q _ st ws (w ∷ st) ws ks ks c refl)
     expr_runs (Var a) h p q st ws ks c sound are =

@@ -10,3 +10,8 @@ pub mod TypedStatements
 pub mod TypedTask
 pub mod Words
 pub mod Expressions
+pub mod Counts
+pub mod Statements
+pub mod Functions
+pub mod Memory
+pub mod Instances

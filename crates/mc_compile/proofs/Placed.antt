@@ -1,16 +1,16 @@
 -- The translation stands where it is put.
 use Rattle.std.proofs.Common.{◌≡◌, ℕ, ◌+◌, ◌<◌, List, [], ◌∷◌, ◌++◌, length, Some, refl, sym, ap, ◌∙◌, subst, arith, append_assoc, length-append}
-use Rattle.std.specs.Prelude.{slice_get, slice_index}
+use Rattle.std.specs.Prelude.{slice_index}
 use Rattle.std.proofs.Math.Seq.{get_or-append_seam}
 use Rattle.std.proofs.lemmas.Option.{slice_get-get_or}
 use Rattle.mc_tree.specs.Tree.{Ex, Num, Var, Elem, Un, Bin, St, Assign, AssignAt, Invoke, When, Choice, Loop, Scoped, Count, Series, Bl, Nil, Then, Ls, NoLoop, OneLoop, Fn, Tree}
 use Rattle.mc_tree.specs.Meaning.{params_at}
-use Rattle.word_machine.specs.declared.code.Instr.TheVariants.{Store, LoadX, StoreX, Jmp, Jz, CZero, CInc, Call, Ret, Halt}
+use Rattle.word_machine.specs.declared.code.Instr.TheVariants.{Store, LoadX, StoreX, Jmp, Jz, CInc, Ret, Halt}
 use Rattle.word_machine.specs.declared.code.Slot.{Slot}
-use Rattle.mc_compile.specs.Translate.{slot, unary_instr, between, joined, ex_len, ex_code, args_len, args_code, stores_code, st_len, bl_len, ls_len, st_code, bl_code, ls_code}
-use Rattle.mc_compile.specs.Whole.{fn_len, fn_code, fns_len, fns_code, fn_starts, main_len, starts_of, instrs_of, translate}
+use Rattle.mc_compile.specs.Translate.{slot, unary_instr, between, joined, ex_len, ex_code, args_len, args_code, stores_code, st_len, bl_len, st_code, bl_code, ls_code}
+use Rattle.mc_compile.specs.Whole.{fn_len, fn_code, fns_code, fn_starts, main_len, starts_of, instrs_of, translate}
 use Rattle.mc_compile.specs.Coded.{Has, HasAll, CodedE, CodedA, CodedS, Coded, CodedB, CodedL, CodedF, CodedFs, CodedTask}
-use Rattle.mc_compile.proofs.Lengths.{between_length, ex_length, args_length, stores_length, st_length, bl_length, ls_length, fn_length}
+use Rattle.mc_compile.proofs.Lengths.{between_length, ex_length, args_length, stores_length, st_length, bl_length, fn_length}
 
 -- a list stands in itself, behind what comes before
 pub stands : (ss pre : List Slot) → HasAll (pre ++ ss) (length pre) ss (length (pre ++ ss))
@@ -36,6 +36,7 @@ module _ (instrs : List Slot) where
   cons s ss p q h =
       (record { here = h.1.here; next = refl }, subst (λ n. HasAll instrs n ss q) (sym h.1.next) h.2)
 
+  -- a list of one
   pub only : (s : Slot) (p q : ℕ) → HasAll instrs p (s ∷ []) q → Has instrs p s q
   only s p q h = record { here = h.1.here; next = h.1.next ∙ h.2 }
 
@@ -53,6 +54,7 @@ module _ (instrs : List Slot) where
   as_is : (s s' : Slot) (p q : ℕ) → s ≡ s' → Has instrs p s q → Has instrs p s' q
   as_is s s' p q e h = record { here = h.here ∙ ap Some e; next = h.next }
 
+  -- an expression
   pub placed_e : (h : ℕ) (e : Ex) (p q : ℕ) → HasAll instrs p (ex_code h e) q → CodedE instrs h p e q
   placed_e h (Num w) p q x = only _ p q x
   placed_e h (Var a) p q x = only _ p q x
@@ -71,12 +73,14 @@ module _ (instrs : List Slot) where
       let right = cut (ex_code (h + 1) r) (joined op h) (ex_len r) p2 q (ex_length (h + 1) r) middle.1 in
       (p1, p2, p3, placed_e h l p p1 left.0, middle.0, placed_e (h + 1) r p2 p3 right.0, right.1)
 
+  -- arguments
   pub placed_a : (h : ℕ) (es : List Ex) (p q : ℕ) → HasAll instrs p (args_code h es) q → CodedA instrs h p es q
   placed_a h [] p q x = x
   placed_a h (e ∷ es) p q x =
       let parts = cut (ex_code h e) (args_code (h + 1) es) (ex_len e) p q (ex_length h e) x in
       (p + ex_len e, placed_e h e p (p + ex_len e) parts.0, placed_a (h + 1) es (p + ex_len e) q parts.1)
 
+  -- stores of parameters
   pub placed_s : (h : ℕ) (xs : List ℕ) (p q : ℕ) → HasAll instrs p (stores_code h xs) q → CodedS instrs h p xs q
   placed_s h [] p q x = x
   placed_s h (y ∷ xs) p q x =
@@ -85,6 +89,7 @@ module _ (instrs : List Slot) where
 
 module _ (instrs : List Slot) (starts : ℕ → ℕ) (params : ℕ → List ℕ) where
   mutual
+    -- a statement
     pub placed : (s : St) (p q : ℕ) → HasAll instrs p (st_code starts params p s) q → Coded starts params instrs p s q
     placed (Assign a e) p q x =
         let value = cut instrs (ex_code 0 e) (slot (Store a) 1 ∷ []) (ex_len e) p q (ex_length 0 e) x in
@@ -143,6 +148,7 @@ module _ (instrs : List Slot) (starts : ℕ → ℕ) (params : ℕ → List ℕ)
         let clear = cons instrs _ (ls_code starts params c n (p + 1) l) p q x in
         (p + 1, clear.0, placed_l l c n (p + 1) q clear.1)
 
+    -- a block
     pub placed_b : (b : Bl) (p q : ℕ) → HasAll instrs p (bl_code starts params p b) q → CodedB starts params instrs p b q
     placed_b Nil p q x = x
     placed_b (Then s rest) p q x =
@@ -150,6 +156,7 @@ module _ (instrs : List Slot) (starts : ℕ → ℕ) (params : ℕ → List ℕ)
         let parts = cut instrs (st_code starts params p s) _ (st_len params s) p q (st_length starts params p s) x in
         (p1, placed s p p1 parts.0, placed_b rest p1 q parts.1)
 
+    -- the loops of a sequence
     pub placed_l : (l : Ls) (s k p q : ℕ) → HasAll instrs p (ls_code starts params s k p l) q → CodedL starts params instrs s k p l q
     placed_l NoLoop s k p q x = x
     placed_l (OneLoop c n t b rest) s k p q x =
@@ -170,6 +177,7 @@ module _ (instrs : List Slot) (starts : ℕ → ℕ) (params : ℕ → List ℕ)
         let back = cons instrs (slot (Jmp head) 0) (ls_code starts params s k next rest) p5 q turn.1 in
         (head, p1, p1 + 1, p1 + 1 + 1, body, p5, next, clear.0, placed_e instrs 0 t head p1 test.0, jump.0, count.0, record { here = total.0.here; next = three }, placed_b b body p5 turn.0, back.0, placed_l rest s k next q back.1)
 
+  -- a function
   pub placed_f : (f : Fn) (p q : ℕ) → HasAll instrs p (fn_code starts params p f) q → CodedF starts params instrs p f q
   placed_f f p q x =
       let p1 = p + bl_len params f.body in
@@ -178,6 +186,7 @@ module _ (instrs : List Slot) (starts : ℕ → ℕ) (params : ℕ → List ℕ)
       let answer = cut instrs (ex_code 0 f.answer) (slot Ret 1 ∷ []) (ex_len f.answer) p1 q (ex_length 0 f.answer) body.1 in
       (p1, p2, placed_b f.body p p1 body.0, placed_e instrs 0 f.answer p1 p2 answer.0, only instrs _ p2 q answer.1)
 
+  -- the functions
   pub placed_fs : (fs : List Fn) (p q : ℕ) → HasAll instrs p (fns_code starts params p fs) q → CodedFs starts params instrs p fs (fn_starts params p fs) q
   placed_fs [] p q x = (refl, x)
   placed_fs (f ∷ fs) p q x =

@@ -5,11 +5,12 @@ use Rattle.mars_base.specs.declared.word.Role.{Role}
 use Rattle.mars_base.specs.declared.word.Role.TheVariants as role
 use Rattle.mars_base.specs.declared.word.BinOp.TheVariants as two
 use Rattle.mc_tree.specs.declared.tree.Cell.{Cell}
-use Rattle.mc_tree.specs.Tree.{Ex, Num, Var, Elem, Un, Bin, St, Assign, AssignAt, Invoke, When, Choice, Loop, Scoped, Count, Series, Bl, Nil, Then, Ls, NoLoop, OneLoop, Fn, Tree}
+use Rattle.mc_tree.specs.Tree.{Ex, Num, Var, Elem, Bin, St, Assign, AssignAt, Invoke, When, Choice, Loop, Scoped, Count, Series, Bl, Nil, Then, NoLoop, OneLoop, Fn, Tree}
+use Rattle.word_machine.specs.Cost.{cost_of}
 use Rattle.word_machine.specs.Execution.{exec, exec_from, Done, Broke}
 use Rattle.word_machine.specs.declared.code.CellShape.{CellShape}
 use Rattle.word_machine.specs.declared.code.Instr.TheVariants.{Push, Load, Store, LoadX, StoreX, Add, Sub, Div, Or, Lt, Le, Not, Jmp, Jz, CZero, CInc, Call, Ret, Halt}
-use Rattle.word_machine.specs.declared.code.Slot.{Slot}
+use Rattle.mc_compile.specs.Cost.{ex_cost}
 use Rattle.mc_compile.specs.Translate.{slot}
 use Rattle.mc_compile.specs.Whole.{translate, code_len}
 
@@ -46,6 +47,13 @@ count_cells = refl
 count_cycles : exec (translate count_task) 100 [] (pos 3 ∷ []) ≡ Done [] (pos 3 ∷ []) (3 + 1 + 4 * 7 + 3 * 9 + 1)
 unfolding exec_from
 count_cycles = refl
+
+-- a test with its jump, and a turn with its count and its jump
+count_test_cost : ex_cost (Bin two.Lt (Var 1) (Var 0)) + cost_of (Jz 13) ≡ 7
+count_test_cost = refl
+
+count_turn_cost : cost_of (CInc 0 3) + (ex_cost (Bin two.Add (Var 1) (Num (pos 1))) + cost_of (Store 1)) + cost_of (Jmp 3) ≡ 9
+count_turn_cost = refl
 
 -- a fourth turn is above the bound
 count_breaks : exec (translate count_task) 100 [] (pos 4 ∷ []) ≡ Broke 61

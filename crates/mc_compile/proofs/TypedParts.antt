@@ -1,6 +1,6 @@
 -- The code of each part of a checked task meets the rules on instructions.
-use Rattle.std.proofs.Common.{◌≡◌, ◌⊎◌, ℕ, suc, ◌+◌, ◌-◌, ◌<◌, ◌≤◌, List, [], ◌∷◌, length, Option, Some, refl, sym, ap, ◌∙◌, subst, arith, ⊎_elim}
-use Rattle.std.specs.Prelude.{slice_get, All, Contains, max}
+use Rattle.std.proofs.Common.{◌≡◌, ℕ, suc, ◌+◌, ◌<◌, ◌≤◌, List, [], ◌∷◌, length, Some, refl, sym, ap, ◌∙◌, subst, arith, ⊎_elim}
+use Rattle.std.specs.Prelude.{slice_get, All, Contains}
 use Rattle.std.proofs.lemmas.Bool.{cases_lt}
 use Rattle.std.specs.Option.{option_map}
 use Rattle.mars_base.specs.declared.word.BinOp.{BinOp}
@@ -8,19 +8,16 @@ use Rattle.mars_base.specs.declared.word.BinOp.TheVariants as two
 use Rattle.mars_base.specs.declared.word.UnOp.{UnOp}
 use Rattle.mars_base.specs.declared.word.UnOp.TheVariants as one
 use Rattle.mc_tree.specs.declared.tree.Cell.{Cell}
-use Rattle.mc_tree.specs.Tree.{Ex, Num, Var, Elem, Un, Bin, St, Assign, AssignAt, Invoke, When, Choice, Loop, Scoped, Count, Series, Bl, Nil, Then, Ls, NoLoop, OneLoop}
-use Rattle.mc_tree.specs.Counters.{Counted, CountedB, CountedL}
+use Rattle.mc_tree.specs.Tree.{Ex, Num, Var, Elem, Un, Bin}
 use Rattle.mc_tree.specs.Height.{height, args_height}
-use Rattle.mc_tree.specs.Sound.{IsCell, SoundE, SoundTest, Sound, SoundB, SoundL}
-use Rattle.mc_tree.proofs.Checked.{counted_up, counted_up_b, counted_up_l}
+use Rattle.mc_tree.specs.Sound.{IsCell, SoundE}
 use Rattle.word_machine.specs.Action.{Action, Combines, Changes, action_of}
-use Rattle.word_machine.specs.Typing.{pops_of, pushes_of, height_at, height_after, routine_of, IsLast, FlowsOn, Lands, JumpFits, PlacesFit, CounterFits, CallsWell, CallFits, EndFits, EndsRoutine, IsTypedAt}
+use Rattle.word_machine.specs.Typing.{pops_of, pushes_of, height_at, height_after, routine_of, IsLast, FlowsOn, Lands, JumpFits, PlacesFit, CounterFits, CallFits, EndFits, IsTypedAt}
 use Rattle.word_machine.specs.declared.code.Code.{Code}
-use Rattle.word_machine.specs.declared.code.Instr.TheVariants.{Push, Load, Store, LoadX, StoreX, Jmp, Jz, CZero, CInc, Call}
 use Rattle.word_machine.specs.declared.code.Slot.{Slot}
 use Rattle.mc_compile.specs.Translate.{slot, unary_instr, between, joined}
-use Rattle.mc_compile.specs.Coded.{Has, HasAll, CodedE, CodedA, CodedS, Coded, CodedB, CodedL}
-use Rattle.mc_compile.proofs.Heights.{up_e, up_a, up_stores, height_here, begins_e, begins_a, begins_stores, up, up_b, up_l, begins, begins_b, begins_l}
+use Rattle.mc_compile.specs.Coded.{Has, HasAll, CodedE, CodedA, CodedS}
+use Rattle.mc_compile.proofs.Heights.{up_e, up_a, up_stores, height_here, begins_e, begins_a}
 use Rattle.mc_compile.proofs.Placed.{all_end}
 
 -- it takes operands and puts its result in their place, and nothing else

@@ -1,19 +1,16 @@
 -- The code of each statement of a checked task meets the rules on instructions.
-use Rattle.std.proofs.Common.{◌≡◌, ℕ, suc, ◌+◌, ◌<◌, ◌≤◌, List, [], ◌∷◌, length, Some, refl, sym, ap, ◌∙◌, subst, arith}
-use Rattle.std.specs.Prelude.{slice_get, All}
+use Rattle.std.proofs.Common.{◌≡◌, ℕ, suc, ◌+◌, ◌<◌, ◌≤◌, List, length, Some, refl, ap, ◌∙◌, arith}
 use Rattle.mc_tree.specs.declared.tree.Cell.{Cell}
 use Rattle.mc_tree.specs.Tree.{Ex, St, Assign, AssignAt, Invoke, When, Choice, Loop, Scoped, Count, Series, Bl, Nil, Then, Ls, NoLoop, OneLoop}
 use Rattle.mc_tree.specs.Counters.{Counted, CountedB, CountedL}
-use Rattle.mc_tree.specs.Height.{height, args_height}
-use Rattle.mc_tree.specs.Sound.{IsCell, SoundE, SoundTest, Sound, SoundB, SoundL}
-use Rattle.mc_tree.proofs.Checked.{counted_up, counted_up_b, counted_up_l}
+use Rattle.mc_tree.specs.Sound.{IsCell, SoundTest, Sound, SoundB, SoundL}
+use Rattle.mc_tree.proofs.Checked.{counted_up_b, counted_up_l}
 use Rattle.word_machine.specs.Typing.{height_at}
 use Rattle.word_machine.specs.declared.code.Code.{Code}
-use Rattle.word_machine.specs.declared.code.Instr.TheVariants.{Store, Jmp, Jz, CZero, CInc, Call}
-use Rattle.word_machine.specs.declared.code.Slot.{Slot}
+use Rattle.word_machine.specs.declared.code.Instr.TheVariants.{Store, Jmp, Jz, CZero, CInc}
 use Rattle.mc_compile.specs.Translate.{slot}
 use Rattle.mc_compile.specs.Coded.{Has, CodedE, Coded, CodedB, CodedL}
-use Rattle.mc_compile.proofs.Heights.{up_e, up_a, up_stores, height_here, begins_e, begins_a, begins_stores, up, up_b, up_l, begins, begins_b, begins_l}
+use Rattle.mc_compile.proofs.Heights.{up_e, up_a, up_stores, height_here, begins_e, begins_stores, up, up_b, up_l, begins_b, begins_l}
 use Rattle.mc_compile.proofs.TypedParts.{IsRoutine, IsCallable, TypedIn, typed_join, typed_none, args_low, step_typed, follows, lands, typed_e, typed_a, typed_stores}
 
 module _ (code : Code) (cells : List Cell) (lo hi r : ℕ) (routine : IsRoutine code lo hi r) (fits : (p n : ℕ) → IsCell cells p n → p + n ≤ code.places) where

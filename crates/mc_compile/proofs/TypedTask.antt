@@ -1,27 +1,22 @@
 -- The code of a checked task meets the typing rules.
-use Rattle.std.proofs.Common.{◌≡◌, ◌⊎◌, inl, inr, ⊎_elim, ℕ, zero, suc, ◌+◌, ◌-◌, ◌<◌, ◌≤◌, List, [], ◌∷◌, ◌++◌, length, Option, Some, None, refl, sym, ap, ◌∙◌, subst, arith, append_assoc, length-append}
+use Rattle.std.proofs.Common.{◌≡◌, ⊎_elim, ℕ, zero, suc, ◌+◌, ◌<◌, ◌≤◌, List, [], ◌∷◌, ◌++◌, length, Some, refl, sym, ap, ◌∙◌, subst, arith, append_assoc, length-append}
 use Rattle.std.specs.Prelude.{◌||◌, slice_get, slice_index, All, Contains, count_by}
 use Rattle.std.specs.List.Sorted.{IsStrictlyIncreasing}
-use Rattle.std.specs.Option.{option_map}
-use Rattle.std.proofs.lemmas.Bool.{cases_lt}
 use Rattle.std.proofs.lemmas.List.Elements.{Contains-append_cases}
 use Rattle.std.proofs.lemmas.Option.{slice_get_within}
 use Rattle.mc_tree.specs.declared.tree.Cell.{Cell}
-use Rattle.mc_tree.specs.Tree.{Bl, Fn, Tree}
+use Rattle.mc_tree.specs.Tree.{Fn, Tree}
 use Rattle.mc_tree.specs.Meaning.{params_at}
 use Rattle.mc_tree.specs.Counters.{CountedB}
 use Rattle.mc_tree.specs.Sound.{IsCell, SoundB, SoundTest}
-use Rattle.mc_tree.specs.Checked.{words_in, IsChecked}
+use Rattle.mc_tree.specs.Checked.{IsChecked}
 use Rattle.mc_tree.proofs.Checked.{checked_body, checked_fn, checked_cell, checked_counters, counted_up_b}
 use Rattle.word_machine.specs.Cells.{is_in, is_out, total_width}
-use Rattle.word_machine.specs.Typing.{height_at, height_after, routine_of, IsTypedAt, IsWhole, IsVerified, WidthFits}
+use Rattle.word_machine.specs.Typing.{routine_of, IsWhole, IsVerified, WidthFits}
 use Rattle.word_machine.specs.declared.code.CellShape.{CellShape}
 use Rattle.word_machine.specs.declared.code.Code.{Code}
-use Rattle.word_machine.specs.declared.code.Instr.TheVariants.{Ret, Halt}
-use Rattle.word_machine.specs.declared.code.Slot.{Slot}
-use Rattle.mc_compile.specs.Translate.{slot}
-use Rattle.mc_compile.specs.Whole.{shapes_of, code_len, translate}
-use Rattle.mc_compile.specs.Coded.{Has, CodedE, CodedB, CodedF, CodedFs, CodedTask}
+use Rattle.mc_compile.specs.Whole.{code_len, translate}
+use Rattle.mc_compile.specs.Coded.{CodedF, CodedFs, CodedTask}
 use Rattle.mc_compile.proofs.Heights.{up_e, up_b, height_here, begins_e, begins_b}
 use Rattle.mc_compile.proofs.Lengths.{code_length}
 use Rattle.mc_compile.proofs.Placed.{placed_task}
@@ -99,12 +94,12 @@ module _ (code : Code) (cells : List Cell) (starts : ℕ → ℕ) (params : ℕ 
       (λ g f' e. let n : cur + suc g ≡ cur + 1 + g = omega arith in subst (λ m. FnFacts code cells params m f') n (facts (suc g) f' e))
       (λ g lt. let n : cur + suc g ≡ cur + 1 + g = omega arith in subst (λ m. MayCall m (m + 1)) n (calls (suc g) (omega arith))))
 
-fn_at : (fs : List Fn) (g : ℕ) → g < length fs → (f : Fn) × (slice_get fs g ≡ Some f)
+pub fn_at : (fs : List Fn) (g : ℕ) → g < length fs → (f : Fn) × (slice_get fs g ≡ Some f)
 fn_at [] g lt = absurd (let x : ⊥ = omega arith in x)
 fn_at (f ∷ fs) zero lt = (f, refl)
 fn_at (f ∷ fs) (suc g) lt = fn_at fs g (omega arith)
 
-params_is : (fs : List Fn) (g : ℕ) (f : Fn) → slice_get fs g ≡ Some f → params_at fs g ≡ f.params
+pub params_is : (fs : List Fn) (g : ℕ) (f : Fn) → slice_get fs g ≡ Some f → params_at fs g ≡ f.params
 params_is [] g f e = absurd (let x : ⊥ = cc in x)
 params_is (x ∷ fs) zero f e = let is : x ≡ f = cc in ap (λ (y : Fn). y.params) is
 params_is (x ∷ fs) (suc g) f e = params_is fs g f e

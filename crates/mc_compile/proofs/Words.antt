@@ -1,9 +1,8 @@
 -- Operators give words for words, and what their instructions leave is what they mean.
-use Rattle.std.proofs.Common.{◌≡◌, ℕ, zero, suc, ◌+◌, ◌<◌, ◌≤◌, ◌^◌, Bool, true, false, ℤ, Option, Some, None, refl, sym, ap, ◌∙◌, subst, arith}
+use Rattle.std.proofs.Common.{◌≡◌, zero, suc, ◌^◌, Bool, true, false, ℤ, Some, None, refl, sym, ap, ◌∙◌, subst, arith}
 use Rattle.std.specs.Prelude.{pos, negsuc, not, ◌&&◌, ◌||◌, int_lt, int_le, FitsSigned, if◌then◌else◌, bit_or}
 use Rattle.std.specs.Int.{w32, cast_signed, cast_unsigned, int_bit_or}
 use Rattle.std.specs.Int.Signed.{mag_shr, mag_rem}
-use Rattle.std.specs.Ordering.{int_eq}
 use Rattle.std.proofs.lemmas.Int.{ints, to_z-of_z, of_z-to_z}
 use Rattle.std.proofs.lemmas.Nat.{le_or_l, le_or_r, or_of_32}
 use borrow.Author.Gap.{read_sfits}
@@ -12,7 +11,7 @@ use Rattle.mars_base.specs.declared.word.BinOp.{BinOp}
 use Rattle.mars_base.specs.declared.word.BinOp.TheVariants.{Or, And, BitOr, BitXor, BitAnd, Eq, Ne, Lt, Le, Gt, Ge, Shl, Shr, Add, Sub, Mul, Div, Rem}
 use Rattle.mars_base.specs.declared.word.UnOp.{UnOp}
 use Rattle.mars_base.specs.declared.word.UnOp.TheVariants.{Neg, Not, Inv}
-use Rattle.mars_base.specs.Word.{truth_of, is_zero, amount_of, divided, binary_of, unary_of}
+use Rattle.mars_base.specs.Word.{truth_of, is_zero, amount_of, binary_of, unary_of}
 
 -- a number of 32 bits with a sign
 abbrev pub IsWord : ℤ → Type 0

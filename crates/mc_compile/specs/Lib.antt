@@ -1,4 +1,5 @@
 pub mod Coded
+pub mod Correct
 pub mod Cost
 pub mod Translate
 pub mod Whole

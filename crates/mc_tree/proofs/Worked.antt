@@ -1,6 +1,9 @@
 -- Tasks worked by hand: what their instances give.
-use Rattle.std.proofs.Common.{◌≡◌, ℕ, ℤ, pos, negsuc, List, [], ◌∷◌, refl}
+use Rattle.std.proofs.Common.{◌≡◌, ℤ, pos, negsuc, [], ◌∷◌, refl}
+use Rattle.std.specs.Prelude.{Some}
 use Rattle.std.specs.Int.{int_wrap}
+use Rattle.mars_base.specs.Word.{binary_of}
+use Rattle.mars_base.specs.declared.word.BinOp.TheVariants.{Shl, Shr, Div, Rem}
 use Rattle.mc_tree.specs.Tree.{Tree}
 use Rattle.mc_tree.specs.Instance.{Outcome, Gives, Breaks, instance_of}
 use Rattle.mc_tree.specs.Worked.{inc, count, deep, nopath, trap, seq, both_sides, inv, sense, ctl, act, again, twice, pick}
@@ -104,3 +107,48 @@ act_7 = refl
 act_below : on act (negsuc 4) ≡ gives (pos 0)
 unfolding instance_of int_wrap
 act_below = refl
+
+-- The least word, and -1.
+abbrev least : ℤ
+least = negsuc 2147483647
+
+abbrev minus_one : ℤ
+minus_one = negsuc 0
+
+least_divided : binary_of Div least minus_one ≡ Some least
+unfolding int_wrap
+least_divided = refl
+
+least_remainder : binary_of Rem least minus_one ≡ Some (pos 0)
+unfolding int_wrap
+least_remainder = refl
+
+-- truncated toward zero, with the sign of the left word
+quotient_below : binary_of Div (negsuc 6) (pos 2) ≡ Some (negsuc 2)
+unfolding int_wrap
+quotient_below = refl
+
+remainder_below : binary_of Rem (negsuc 6) (pos 2) ≡ Some (negsuc 0)
+unfolding int_wrap
+remainder_below = refl
+
+-- shifts by 32 and by -1 shift by 0 and by 31
+left_by_32 : binary_of Shl (pos 5) (pos 32) ≡ Some (pos 5)
+unfolding int_wrap
+left_by_32 = refl
+
+left_by_minus_one : binary_of Shl (pos 1) minus_one ≡ Some least
+unfolding int_wrap
+left_by_minus_one = refl
+
+right_by_32 : binary_of Shr least (pos 32) ≡ Some least
+unfolding int_wrap
+right_by_32 = refl
+
+right_by_minus_one : binary_of Shr least minus_one ≡ Some minus_one
+unfolding int_wrap
+right_by_minus_one = refl
+
+deep_0 : on deep (pos 0) ≡ gives (pos 0)
+unfolding instance_of int_wrap
+deep_0 = refl

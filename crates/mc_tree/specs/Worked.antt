@@ -1,10 +1,10 @@
 -- Tasks that are worked by hand, each with its text.
-use Rattle.std.specs.Prelude.{ℕ, ℤ, pos, List, [], ◌∷◌, codes}
+use Rattle.std.specs.Prelude.{ℕ, pos, List, [], ◌∷◌, codes}
 use Rattle.mars_base.specs.declared.word.Role.{Role}
 use Rattle.mars_base.specs.declared.word.Role.TheVariants.{In, Out, State, Local}
 use Rattle.mars_base.specs.declared.word.BinOp.TheVariants.{And, Lt, Gt, Add, Sub, Mul, Div, Rem}
 use Rattle.mc_tree.specs.declared.tree.Cell.{Cell}
-use Rattle.mc_tree.specs.Tree.{Ex, Num, Var, Elem, Un, Bin, St, Assign, AssignAt, Invoke, When, Choice, Loop, Scoped, Count, Series, Bl, Nil, Then, Ls, NoLoop, OneLoop, Fn, Tree}
+use Rattle.mc_tree.specs.Tree.{Ex, Num, Var, Elem, Bin, St, Assign, AssignAt, Invoke, When, Choice, Loop, Scoped, Count, Series, Bl, Nil, Then, NoLoop, OneLoop, Tree}
 
 abbrev pub cell : Role → List ℕ → (place width : ℕ) → Cell
 cell role name place width = record { role = role; name = name; place = place; width = width }

@@ -39,12 +39,12 @@ act_ends (Stores a) pc (w ∷ st) ws ks rs e =
 act_ends (LoadsAt a n) pc [] ws ks rs e = cc
 act_ends (LoadsAt a n) pc (i ∷ st) ws ks rs e =
     absurd (gives_no_end (place_of a n i) (λ p. found (slice_get ws p) (λ w. Goes (at (pc + 1) (w ∷ st) ws ks rs)))
-      (λ p. found_no_end (slice_get ws p) (λ w. Goes (at (pc + 1) (w ∷ st) ws ks rs)) (λ w. goes_no_end (at (pc + 1) (w ∷ st) ws ks rs))) e)
+    (λ p. found_no_end (slice_get ws p) (λ w. Goes (at (pc + 1) (w ∷ st) ws ks rs)) (λ w. goes_no_end (at (pc + 1) (w ∷ st) ws ks rs))) e)
 act_ends (StoresAt a n) pc [] ws ks rs e = cc
 act_ends (StoresAt a n) pc (w ∷ []) ws ks rs e = cc
 act_ends (StoresAt a n) pc (w ∷ i ∷ st) ws ks rs e =
     absurd (gives_no_end (place_of a n i) (λ p. found (slice_get ws p) (λ _. Goes (at (pc + 1) st (slice_set ws p w) ks rs)))
-      (λ p. found_no_end (slice_get ws p) (λ _. Goes (at (pc + 1) st (slice_set ws p w) ks rs)) (λ _. goes_no_end (at (pc + 1) st (slice_set ws p w) ks rs))) e)
+    (λ p. found_no_end (slice_get ws p) (λ _. Goes (at (pc + 1) st (slice_set ws p w) ks rs)) (λ _. goes_no_end (at (pc + 1) st (slice_set ws p w) ks rs))) e)
 act_ends (Combines op) pc [] ws ks rs e = cc
 act_ends (Combines op) pc (y ∷ []) ws ks rs e = cc
 act_ends (Combines op) pc (y ∷ x ∷ st) ws ks rs e =
@@ -58,7 +58,7 @@ act_ends (Clears c) pc st ws ks rs e =
     absurd (found_no_end (slice_get ks c) (λ _. Goes (at (pc + 1) st ws (slice_set ks c 0) rs)) (λ _. goes_no_end (at (pc + 1) st ws (slice_set ks c 0) rs)) e)
 act_ends (Counts c n) pc st ws ks rs e =
     absurd (found_no_end (slice_get ks c) (λ k. gives (count_up k n) (λ v. Goes (at (pc + 1) st ws (slice_set ks c v) rs)))
-      (λ k. gives_no_end (count_up k n) (λ v. Goes (at (pc + 1) st ws (slice_set ks c v) rs)) (λ v. goes_no_end (at (pc + 1) st ws (slice_set ks c v) rs))) e)
+    (λ k. gives_no_end (count_up k n) (λ v. Goes (at (pc + 1) st ws (slice_set ks c v) rs)) (λ v. goes_no_end (at (pc + 1) st ws (slice_set ks c v) rs))) e)
 act_ends (Calls t) pc st ws ks rs e = cc
 act_ends Returns pc st ws ks [] e = cc
 act_ends Returns pc st ws ks (r ∷ rs) e = cc

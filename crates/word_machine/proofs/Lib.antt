@@ -1,3 +1,4 @@
+pub mod Checked
 pub mod Course
 pub mod Exec
 pub mod FreeRuns

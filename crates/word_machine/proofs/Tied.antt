@@ -37,26 +37,26 @@ pub tied : (code : Code) → IsVerified code → (state ins : List ℤ) → leng
     → IsTied code state ins
 tied code v state ins hs hi = record {
   halts_done = λ left outs cycles limit h fits.
-    let n = cycles_of h.run in
-    ap (ran_of code) (run_exec code.instrs limit h.run 0 (omega (arith, h.cycles_are)))
-    ∙ ap (λ k. Done (cell_words is_state code.cells h.words) (cell_words is_out code.cells h.words) k) (omega (arith, h.cycles_are))
-    ∙ ap (λ st. Done st (cell_words is_out code.cells h.words) cycles) h.state_is
-    ∙ ap (λ os. Done left os cycles) h.outs_are;
+      let n = cycles_of h.run in
+      ap (ran_of code) (run_exec code.instrs limit h.run 0 (omega (arith, h.cycles_are)))
+      ∙ ap (λ k. Done (cell_words is_state code.cells h.words) (cell_words is_out code.cells h.words) k) (omega (arith, h.cycles_are))
+      ∙ ap (λ st. Done st (cell_words is_out code.cells h.words) cycles) h.state_is
+      ∙ ap (λ os. Done left os cycles) h.outs_are;
   halts_cut = λ left outs cycles limit h past.
-    let n = cycles_of h.run in
-    let cut = run_cut code.instrs limit h.run 0 (omega (arith, h.cycles_are)) in
-    (cut.0, ap (ran_of code) cut.1);
+      let n = cycles_of h.run in
+      let cut = run_cut code.instrs limit h.run 0 (omega (arith, h.cycles_are)) in
+      (cut.0, ap (ran_of code) cut.1);
   breaks_broke = λ run limit fits.
-    let n = cycles_of run in
-    ap (ran_of code) (run_exec code.instrs limit run 0 (omega arith)) ∙ ap Broke (omega arith);
+      let n = cycles_of run in
+      ap (ran_of code) (run_exec code.instrs limit run 0 (omega arith)) ∙ ap Broke (omega arith);
   breaks_cut = λ run limit past.
-    let n = cycles_of run in
-    let cut = run_cut code.instrs limit run 0 (omega arith) in
-    (cut.0, ap (ran_of code) cut.1);
+      let n = cycles_of run in
+      let cut = run_cut code.instrs limit run 0 (omega arith) in
+      (cut.0, ap (ran_of code) cut.1);
   done_halts = λ left outs cycles limit e.
-    done_stopped code state ins left outs limit cycles (exec_from code.instrs limit (start_of code state ins) 0) e
+      done_stopped code state ins left outs limit cycles (exec_from code.instrs limit (start_of code state ins) 0) e
       (exec_came code.instrs limit (start_of code state ins) 0);
   broke_breaks = λ cycles limit e.
-    broke_failed code state ins limit cycles (exec_from code.instrs limit (start_of code state ins) 0) v hs hi e
+      broke_failed code state ins limit cycles (exec_from code.instrs limit (start_of code state ins) 0) v hs hi e
       (exec_came code.instrs limit (start_of code state ins) 0);
 }

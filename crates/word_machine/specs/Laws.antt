@@ -79,10 +79,12 @@ cond_is P false x y h k = k
 steps_within : (n : ℕ) (instrs : List Slot) (limit : ℕ) (s : State) (cycles : ℕ) → cycles ≤ limit → spent (steps n instrs limit s cycles) ≤ limit
 steps_within zero instrs limit s cycles le = le
 steps_within (suc n) instrs limit s cycles le =
-    cond_is (λ e. spent e ≤ limit) (nat_le (cycles + cost_at instrs s.pc) limit) _ (Short cycles)
-    (λ fits. let fit : cycles + cost_at instrs s.pc ≤ limit = leb-true (cycles + cost_at instrs s.pc) limit fits in
-    after_is (λ e. spent e ≤ limit) (λ t. steps n instrs limit t (cycles + cost_at instrs s.pc)) s.words (cycles + cost_at instrs s.pc) (step instrs s)
-    (λ t. steps_within n instrs limit t (cycles + cost_at instrs s.pc) fit) fit fit)
+    let next = cycles + cost_at instrs s.pc in
+    cond_is (λ e. spent e ≤ limit) (nat_le next limit) _ (Short cycles)
+    (λ fits.
+        let fit : next ≤ limit = leb-true next limit fits in
+        after_is (λ e. spent e ≤ limit) (λ t. steps n instrs limit t next) s.words next (step instrs s)
+        (λ t. steps_within n instrs limit t next fit) fit fit)
     le
 
 -- an execution that is over took more cycles than it began with
@@ -90,11 +92,15 @@ steps_later : (n : ℕ) (instrs : List Slot) (limit : ℕ) (s : State) (cycles :
     → cycles < spent (steps n instrs limit s cycles)
 steps_later zero instrs limit s cycles = λ over. absurd over
 steps_later (suc n) instrs limit s cycles =
-    let later : cycles < cycles + cost_at instrs s.pc = omega (arith, step_costs instrs s.pc) in
-    cond_is (λ e. IsEnded e → cycles < spent e) (nat_le (cycles + cost_at instrs s.pc) limit) _ (Short cycles)
-    (λ fits. after_is (λ e. IsEnded e → cycles < spent e) (λ t. steps n instrs limit t (cycles + cost_at instrs s.pc)) s.words (cycles + cost_at instrs s.pc) (step instrs s)
-    (λ t over. let more : cycles + cost_at instrs s.pc < spent (steps n instrs limit t (cycles + cost_at instrs s.pc)) = steps_later n instrs limit t (cycles + cost_at instrs s.pc) over in omega arith)
-    (λ _. later) (λ _. later))
+    let next = cycles + cost_at instrs s.pc in
+    let later : cycles < next = omega (arith, step_costs instrs s.pc) in
+    cond_is (λ e. IsEnded e → cycles < spent e) (nat_le next limit) _ (Short cycles)
+    (λ fits.
+        after_is (λ e. IsEnded e → cycles < spent e) (λ t. steps n instrs limit t next) s.words next (step instrs s)
+        (λ t over.
+            let more : next < spent (steps n instrs limit t next) = steps_later n instrs limit t next over in
+            omega arith)
+        (λ _. later) (λ _. later))
     (λ over. absurd over)
 
 -- two continuations that agree where the first is over

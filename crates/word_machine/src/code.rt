@@ -15,14 +15,16 @@ pub enum Instr {
     Load(u16),
     /// Pops the word for the place. 2 cycles.
     Store(u16),
-    /// Pops an index, and pushes the word so far behind the place. Breaks where the index isn't at least 0 and below the width. 4 cycles.
+    /// Pops an index, and pushes the word so far behind the place. Breaks where the index isn't at least 0
+    /// and below the width. 4 cycles.
     LoadX {
         /// The place of the array's first word.
         place: u16,
         /// How many words the array has.
         width: u16,
     },
-    /// Pops a word and then an index, and puts the word so far behind the place. Breaks as `LoadX` does. 4 cycles.
+    /// Pops a word and then an index, and puts the word so far behind the place. Breaks as `LoadX` does.
+    /// 4 cycles.
     StoreX {
         /// The place of the array's first word.
         place: u16,

@@ -1,6 +1,6 @@
 //! What a processor does with a program.
 ghost use Rattle.std.specs.Prelude.{◌≡◌, ◌<◌, ◌≤◌, ◌^◌, ℕ, ℤ, List, max, length};
-ghost use Rattle.word_machine.specs.Execution.{Ran, turn_of, cycles_in, outs_in, state_in, IsDone, IsOver};
+ghost use Rattle.word_machine.specs.Execution.{Ran, turn_of, cycles_in, outs_in, state_in, IsOver};
 
 /// How an execution stands under its limit.
 #[derive(Clone, Copy, Debug, PartialEq, Eq)]
@@ -30,7 +30,8 @@ pub trait Cpu {
     /// What the execution of a program comes to under a limit, from its state and its inputs.
     ghost execution: { Self.Program → ℕ → List ℤ → List ℤ → Ran };
 
-    /// The processor has this program loaded with this state and these inputs, and this is the greatest limit so far.
+    /// The processor has this program loaded with this state and these inputs, and this is the greatest
+    /// limit so far.
     ghost runs: { Self → Self.Program → List ℤ → List ℤ → ℕ → Type 0 };
 
     /// Begins an execution of the program from its state words and its input words.
@@ -61,7 +62,7 @@ pub trait Cpu {
     fn outs(&self, program: &Self::Program, into: &mut [i32])
         requires room { length into.old ≡ outs_of program.now }
         requires halted { (state ins : List ℤ) × (m : ℕ) × runs self.now program.now state ins m
-            × IsDone (execution program.now m state ins) }
+            × (turn_of (execution program.now m state ins) ≡ Turn.Halted) }
         ensures { (state ins : List ℤ) (m : ℕ) → runs self.now program.now state ins m
             → into.new ≡ outs_in (execution program.now m state ins) };
 
@@ -69,18 +70,22 @@ pub trait Cpu {
     fn state(&self, program: &Self::Program, into: &mut [i32])
         requires room { length into.old ≡ states_of program.now }
         requires halted { (state ins : List ℤ) × (m : ℕ) × runs self.now program.now state ins m
-            × IsDone (execution program.now m state ins) }
+            × (turn_of (execution program.now m state ins) ≡ Turn.Halted) }
         ensures { (state ins : List ℤ) (m : ℕ) → runs self.now program.now state ins m
             → into.new ≡ state_in (execution program.now m state ins) };
 
     /// The cycles never pass the limit.
-    ghost within: { (program : Self.Program) (limit : ℕ) (state ins : List ℤ) → cycles_in (execution program limit state ins) ≤ limit };
+    ghost within: { (program : Self.Program) (limit : ℕ) (state ins : List ℤ)
+        → cycles_in (execution program limit state ins) ≤ limit };
 
     /// An execution that is over took at least one cycle, since each step costs at least 1.
-    ghost costs: { (program : Self.Program) (limit : ℕ) (state ins : List ℤ) → IsOver (execution program limit state ins)
+    ghost costs: { (program : Self.Program) (limit : ℕ) (state ins : List ℤ)
+        → IsOver (execution program limit state ins)
         → 1 ≤ cycles_in (execution program limit state ins) };
 
     /// An execution that is over comes to the same under each limit that its cycles keep.
-    ghost agrees: { (program : Self.Program) (limit other : ℕ) (state ins : List ℤ) → IsOver (execution program limit state ins)
-        → cycles_in (execution program limit state ins) ≤ other → execution program other state ins ≡ execution program limit state ins };
+    ghost agrees: { (program : Self.Program) (limit other : ℕ) (state ins : List ℤ)
+        → IsOver (execution program limit state ins)
+        → cycles_in (execution program limit state ins) ≤ other
+        → execution program other state ins ≡ execution program limit state ins };
 }

@@ -4,11 +4,13 @@
 
 pub mod code;
 pub mod cpu;
-pub mod load;
+mod load;
 pub mod machine;
-pub mod operands;
-pub mod places;
-pub mod registers;
+mod operands;
+mod places;
+mod registers;
+#[cfg(test)]
+mod tests;
 pub mod verified;
 
 pub use code::{CellShape, Code, Instr, Slot, cost};

@@ -31,8 +31,7 @@ pub fn fill(words: &mut Places, code: &Code, state: &[i32], ins: &[i32])
                 words.append(front);
                 state = rest;
             }
-            Role::Out => words.add_zeros(width),
-            Role::Local => words.add_zeros(width),
+            Role::Out | Role::Local => words.add_zeros(width),
         }
     }
     let rest = usize::from(code.places) - words.len();

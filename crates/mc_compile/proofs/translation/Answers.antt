@@ -1,8 +1,15 @@
 use Rattle.mc_compile.proofs.Costs.{ex_costs}
+use Rattle.mc_compile.proofs.Instances.{translation_right}
 use Rattle.mc_compile.proofs.Lengths.{code_length}
 use Rattle.mc_compile.proofs.Placed.{placed_task}
 use Rattle.mc_compile.proofs.TypedTask.{typed_task}
 use Rattle.mc_compile.proofs.translation.Goals as goal
 
 pub returns : goal.returns
-returns c = record { stands = placed_task; size = code_length; verified = typed_task; costs = ex_costs }
+returns c = record {
+  stands = placed_task;
+  size = code_length;
+  right = translation_right;
+  verified = typed_task;
+  costs = ex_costs;
+}

@@ -13,4 +13,4 @@ returns-clause-never_stuck c = subst (λ (code : Code). NeverStuck code) c.self.
 pub returns-clause-tied : goal.returns-clause-tied
 returns-clause-tied c =
     subst (λ (code : Code). (state ins : List ℤ) → length state ≡ width_of is_state code.cells → length ins ≡ width_of is_in code.cells → IsTied code state ins)
-      c.self.view_is (tied c.self.inside.code c.self.invariant)
+    c.self.view_is (tied c.self.inside.code c.self.invariant)

@@ -1,0 +1,7 @@
+pub mod Feeds
+pub mod Gather
+pub mod Left
+pub mod Parts
+pub mod Reading
+pub mod Returns
+pub mod Split

@@ -1,0 +1,5 @@
+pub mod Found
+pub mod Gathered
+pub mod Grammar
+pub mod Lines
+pub mod Reader

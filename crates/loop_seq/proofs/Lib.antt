@@ -1,0 +1,4 @@
+pub mod Price
+mod Rows
+pub mod Serving
+pub mod Worth

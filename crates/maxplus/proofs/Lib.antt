@@ -1,0 +1,4 @@
+pub mod Capped
+pub mod Folds
+pub mod Greatest
+mod Rows

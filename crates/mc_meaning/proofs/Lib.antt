@@ -1,0 +1,5 @@
+mod Values
+mod Params
+mod Sizes
+mod Steps
+mod Calls

@@ -1,0 +1,82 @@
+//! A task's run over the lines of an input.
+ghost use Rattle.std.specs.Prelude.{◌≡◌, ◌<◌, ◌≤◌, ◌^◌, ◌+◌, length, IfErr, Err};
+ghost use Rattle.lines.specs.Lines.{lines_in, lines_from};
+ghost use Rattle.mars_base.specs.Causes.{Rose};
+ghost use Rattle.mc_tree.specs.Instance.{is_in, is_out, is_state, width_of};
+ghost use Rattle.mc_tree.specs.Plain.{plain_task};
+ghost use Rattle.std.specs.Option.{option_map};
+ghost use Rattle.task_run.specs.Follows.{RunsAs};
+ghost use Rattle.task_run.specs.Progress.{RunAnswers};
+ghost use Rattle.lines.specs.Lines.{lines_of};
+
+use crate::execute::execute;
+use crate::fault::RunFault;
+use crate::text::{write_broken, write_outs, write_task};
+use crate::width::{in_words, out_words, state_words, zeros};
+use lines::{LineBuf, LineFault, LineReader, Next};
+use mars_base::{Sink, Source};
+use mc_tree::Task;
+use std::alloc::Global;
+use word_machine::Cpu;
+
+/// Runs a task over the lines of an input, one at a time, and writes its text. `maxt` is the bound that
+/// each execution keeps and that the last line prints. Each answer goes out before more input is asked
+/// for. Memory is taken before the first line alone.
+pub fn run_lines<C: Cpu, I: Source, O: Sink>(
+    alloc: Global,
+    cpu: &mut C,
+    task: &Task,
+    program: &C::Program,
+    maxt: u32,
+    input: &mut I,
+    out: &mut O,
+) -> Result<(), RunFault>
+    requires cells { length (plain_task task.now).cells < 2 ^ 40 }
+    requires few { width_of is_out (plain_task task.now).cells ≤ 256 }
+    requires small { maxt < 2 ^ 31 }
+    requires follows { RunsAs (plain_task task.now) maxt (C.execution program.now maxt) }
+    requires in_words { C.ins_of program.now ≡ width_of is_in (plain_task task.now).cells }
+    requires out_words { C.outs_of program.now ≡ width_of is_out (plain_task task.now).cells }
+    requires state_words { C.states_of program.now ≡ width_of is_state (plain_task task.now).cells }
+    ensures answer { RunAnswers (plain_task task.now) maxt (C.execution program.now maxt)
+        (option_map (lines_of (width_of is_in (plain_task task.now).cells)) (I.left input.old)) (O.holds out.old) (O.holds out.new) result }
+    ensures read { result ≡ Err RunFault.Read → Rose (I.faults input.old) (I.faults input.new) }
+    ensures write { result ≡ Err RunFault.Write → Rose (O.faults out.old) (O.faults out.new) }
+    ensures later_in { I.faults input.old ≤ I.faults input.new }
+    ensures later_out { O.faults out.old ≤ O.faults out.new }
+{
+    let cells = task.cells.as_slice();
+    let mut ins = zeros(alloc, in_words(cells))?;
+    let mut outs = zeros(alloc, out_words(cells))?;
+    let mut state = zeros(alloc, state_words(cells))?;
+    let mut reader = LineReader::new(alloc)?;
+    let mut buffer = LineBuf::new(alloc)?;
+    let mut line = 0u64;
+    let mut seen = 0u32;
+    loop {
+        if !reader.holds_line() {
+            buffer.flush(out)?;
+        }
+        match reader.next(input, &mut ins) {
+            Ok(Next::Line) => {}
+            Ok(Next::End) => {
+                write_task(&mut buffer, out, task.name.as_slice(), maxt, seen)?;
+                buffer.flush(out)?;
+                return Ok(());
+            }
+            Err(LineFault::Bad(number)) => {
+                buffer.flush(out)?;
+                return Err(RunFault::BadLine(number));
+            }
+            Err(LineFault::Read) => return Err(RunFault::Read),
+        }
+        let Some(cycles) = execute(cpu, task, program, maxt, &mut state, &ins, &mut outs) else {
+            write_broken(&mut buffer, out, line, task.name.as_slice())?;
+            buffer.flush(out)?;
+            return Err(RunFault::Broken);
+        };
+        seen = seen.max(cycles);
+        line += 1;
+        write_outs(&mut buffer, out, &outs)?;
+    }
+}
