@@ -1,21 +1,19 @@
 -- What spells a body is read.
-use Rattle.std.proofs.Common.{◌≡◌, ℕ, zero, suc, ◌+◌, ◌<◌, ◌≤◌, ◌^◌, List, [], ◌∷◌, ◌++◌, Bool, true, false, cond, arith, refl, ap, ◌∙◌, sym, subst, append_assoc, Option, Some, None, pos}
+use Rattle.std.proofs.Common.{◌≡◌, ℕ, suc, ◌+◌, ◌<◌, ◌≤◌, ◌^◌, List, [], ◌∷◌, ◌++◌, true, false, cond, arith, refl, ap, ◌∙◌, sym, append_assoc, Some, pos}
 use Rattle.std.specs.Prelude.{nat_lt, nat_le}
 use Rattle.std.proofs.lemmas.List.{append-nil}
 use Rattle.std.proofs.lemmas.Bool.Decides.{nat_tests}
-use Rattle.mars_base.specs.declared.text.Span.{Span}
 use Rattle.mc_tree.specs.declared.tree.Cell.{Cell}
 use Rattle.mc_tree.specs.Tree.{Ex, Num, Var, Bin, St, Assign, Bl, Nil, Then}
 use Rattle.mc_tree.specs.Plain.{place_in}
-use Rattle.mc_tree.specs.Tokens.{text_of}
 use Rattle.thin_reader.specs.Sizes.{operators, operand_words}
 use Rattle.thin_reader.specs.Symbols.{operator, level}
 use Rattle.thin_reader.specs.declared.symbol.ThinOp.{ThinOp}
 use Rattle.thin_reader.specs.declared.symbol.ThinOp.TheVariants as op
 use Rattle.thin_reader.specs.declared.symbol.Symbol.{Symbol}
 use Rattle.thin_reader.specs.declared.symbol.Symbol.TheVariants as S
-use Rattle.thin_reader.specs.Grammar.{cell_named, Spells, number, cell, parens, binary, IsValue, Assignments, none, assigns}
-use Rattle.thin_reader.specs.Machine.{Frame, Pending, Paren, Stage, Lines, Becomes, Want, Have, End, Step, Next, Dead, opened, Top, top, reduce, found, deeper, constant, operates, closes, finishes, then, step, run}
+use Rattle.thin_reader.specs.Grammar.{Spells, number, cell, parens, binary, IsValue, Assignments, none, assigns}
+use Rattle.thin_reader.specs.Machine.{Frame, Pending, Paren, Stage, Lines, Becomes, Want, Have, Next, Dead, opened, Top, top, reduce, found, deeper, constant, operates, closes, finishes, then, step, run}
 
 -- the assignments of a block, which has no other statements
 abbrev pub statements : Bl → List St

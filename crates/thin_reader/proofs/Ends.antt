@@ -1,5 +1,5 @@
 -- An assignment ends.
-use Rattle.std.proofs.Common.{◌≡◌, ℕ, ◌≤◌, List, [], ◌∷◌, ◌++◌, cond, true, map, refl, ap, ◌∙◌, sym, arith}
+use Rattle.std.proofs.Common.{◌≡◌, ℕ, ◌≤◌, List, [], ◌∷◌, ◌++◌, true, map, refl, ap, ◌∙◌, arith}
 use Rattle.std.specs.Prelude.{nat_le}
 use Rattle.std.proofs.lemmas.Bool.Decides.{nat_tests}
 use Rattle.std.proofs.lemmas.List.{map-append}
@@ -7,11 +7,11 @@ use Rattle.mc_tree.specs.declared.tree.Cell.{Cell}
 use Rattle.mc_tree.specs.declared.tree.Expr.{Expr}
 use Rattle.mc_tree.specs.declared.tree.Stmt.{Stmt}
 use Rattle.mc_tree.specs.declared.tree.Stmt.TheVariants.{Set}
-use Rattle.mc_tree.specs.Tree.{St, Assign}
+use Rattle.mc_tree.specs.Tree.{Assign}
 use Rattle.mc_tree.specs.Plain.{plain_expr, plain_stmt, place_in}
 use Rattle.mc_tree.proofs.Plain.{plain_set}
 use Rattle.thin_reader.specs.Sizes.{operand_words}
-use Rattle.thin_reader.specs.Machine.{Frame, Next, Dead, Lines, finishes}
+use Rattle.thin_reader.specs.Machine.{Frame, Next, Lines, finishes}
 
 pub line_ends : (cells : List Cell) (b ls : List Stmt) (c u : ℕ) (v : Expr) (F : List Frame) → b ≡ ls ++ Set c v ∷ [] → F ≡ [] → operand_words (plain_expr cells v) ≤ 64
     → Next Lines (map (plain_stmt cells) b) u F ≡ finishes cells [] (plain_expr cells v) c (map (plain_stmt cells) ls) u

@@ -1,5 +1,5 @@
 -- A heading is read exactly where it is spelled.
-use Rattle.std.proofs.Common.{◌≡◌, ℕ, ◌<◌, ◌≤◌, List, [], ◌∷◌, ◌++◌, length, Bool, true, false, cond, arith, refl, ap, ◌∙◌, sym, subst, Option, Some, None, length-append}
+use Rattle.std.proofs.Common.{◌≡◌, ℕ, ◌<◌, List, [], ◌∷◌, ◌++◌, length, Bool, true, false, cond, arith, refl, ap, ◌∙◌, sym, subst, Option, Some, None}
 use Rattle.std.specs.Prelude.{nat_lt}
 use Rattle.std.proofs.lemmas.Bool.Decides.{nat_tests}
 use Rattle.mars_base.specs.declared.text.Span.{Span}
@@ -13,7 +13,7 @@ use Rattle.thin_reader.specs.declared.heading.Place.{Place}
 use Rattle.thin_reader.specs.declared.heading.Place.TheVariants as P
 use Rattle.thin_reader.specs.Grammar as G
 use Rattle.thin_reader.specs.Grammar.{cell_named, port}
-use Rattle.thin_reader.specs.Heading.{Step, Next, Done, Dead, Outcome, Good, Bad, declares, starts, ends_title, begins, opens, titled, adds, named_port, then, step, run}
+use Rattle.thin_reader.specs.Heading.{Next, Dead, Good, Bad, declares, starts, ends_title, begins, opens, titled, adds, named_port, then, step, run}
 
 module _ (bytes : List ℕ) where
   -- the reader takes one symbol

@@ -7,3 +7,5 @@ pub mod Sound
 pub mod HeadingLemmas
 pub mod ThinLemmas
 pub mod Whole
+pub mod Blanks
+mod Worked

@@ -1,7 +1,6 @@
 -- Ending operators closes no parenthesis.
-use Rattle.std.proofs.Common.{◌≡◌, ℕ, suc, ◌≤◌, List, [], ◌∷◌, ◌++◌, Bool, true, false, cond, map, refl, ap, ◌∙◌, sym, arith}
+use Rattle.std.proofs.Common.{◌≡◌, ℕ, List, [], ◌∷◌, Bool, true, false, cond, refl, ap, ◌∙◌, sym}
 use Rattle.std.specs.Prelude.{nat_le}
-use Rattle.std.proofs.lemmas.Bool.Decides.{nat_tests}
 use Rattle.mc_tree.specs.Tree.{Ex, Bin}
 use Rattle.thin_reader.specs.Symbols.{operator, level}
 use Rattle.thin_reader.specs.Machine.{Frame, Pending, Paren, opened, reduce, Top, top}

@@ -1,5 +1,5 @@
 -- What is read of a body is spelled so.
-use Rattle.std.proofs.Common.{◌≡◌, ℕ, zero, suc, ◌+◌, ◌<◌, ◌≤◌, ◌^◌, List, [], ◌∷◌, ◌++◌, Bool, true, false, cond, arith, refl, ap, ◌∙◌, sym, subst, append_assoc, Option, Some, None, pos}
+use Rattle.std.proofs.Common.{◌≡◌, ℕ, suc, ◌+◌, ◌<◌, ◌≤◌, List, [], ◌∷◌, ◌++◌, Bool, true, false, cond, arith, refl, ◌∙◌, sym, subst, append_assoc, Option, Some, None, pos}
 use Rattle.std.specs.Prelude.{nat_lt, nat_le}
 use Rattle.std.proofs.lemmas.Bool.Decides.{nat_tests}
 use Rattle.std.proofs.lemmas.List.{append-nil}
@@ -10,11 +10,10 @@ use Rattle.mc_tree.specs.Plain.{place_in}
 use Rattle.mc_tree.specs.Tokens.{text_of}
 use Rattle.thin_reader.specs.Sizes.{operators, operand_words}
 use Rattle.thin_reader.specs.Symbols.{operator, level}
-use Rattle.thin_reader.specs.declared.symbol.ThinOp.{ThinOp}
 use Rattle.thin_reader.specs.declared.symbol.Symbol.{Symbol}
 use Rattle.thin_reader.specs.declared.symbol.Symbol.TheVariants as S
 use Rattle.thin_reader.specs.Grammar.{cell_named, Spells, number, cell, parens, binary, IsValue, Assignments, none, assigns}
-use Rattle.thin_reader.specs.Machine.{Frame, Pending, Paren, Stage, Lines, Becomes, Want, Have, End, Step, Next, Dead, opened, Top, top, reduce, found, deeper, constant, operates, closes, finishes, becomes, lines, wants, has, then, ended, step, run}
+use Rattle.thin_reader.specs.Machine.{Frame, Pending, Paren, Stage, Lines, Becomes, Want, Have, End, Step, Next, Dead, opened, Top, reduce, found, closes, finishes, becomes, lines, wants, has, then, ended, step, run}
 use Rattle.thin_reader.proofs.Complete.{statements, level_le}
 
 -- F waits for an operand of level m or above
@@ -148,7 +147,7 @@ module _ (bytes : List ℕ) (cells : List Cell) where
         let r = reduces (level op) le start (S.Operator op ∷ ss) F v 2 w.from (omega arith) (lower_two F) w.before w.tree in
         under (Sets c start b out) (nat_lt u 255) (Next (Want c) b (suc u) (Pending op (reduce (level op) F v).value ∷ (reduce (level op) F v).frames))
         (λ e g. again (Want c) b (suc u) (Pending op (reduce (level op) F v).value ∷ (reduce (level op) F v).frames) g start
-            (record { before = (r.from, r.tree (level op) (omega arith), r.lower, r.before); count = omega (arith, r.count, w.count); few = below u 255 e })) h
+        (record { before = (r.from, r.tree (level op) (omega arith), r.lower, r.before); count = omega (arith, r.count, w.count); few = below u 255 e })) h
     has_mean S.CloseParen c v b u F h start w =
         let r = reduces 0 (omega arith) start (S.CloseParen ∷ ss) F v 2 w.from (omega arith) (lower_two F) w.before w.tree in
         by_frames (reduce 0 F v).frames (reduce 0 F v).value r (w.count ∙ sym r.count) w.few h
@@ -166,8 +165,12 @@ module _ (bytes : List ℕ) (cells : List Cell) where
         by_frames : (G : List Frame) (x : Ex) → Reduced 0 F v start (S.Semicolon ∷ ss) (record { value = x; frames = G }) → u ≡ used G + operators x → u ≤ 255
             → then (finishes cells G x c b u) (run cells bytes ss) ≡ Some out → Sets c start b out
         by_frames [] x r e few h = under (Sets c start b out) (nat_le (operand_words x) 64) (Next Lines (b ++ Assign (place_in cells c) x ∷ []) u [])
-            (λ t g. (x, ss, record { spells = subst (λ (y : List Symbol). Spells bytes cells 0 0 y x (S.Semicolon ∷ ss)) (sym r.before) (r.tree 0 (omega arith)); few = omega arith; shallow = at_most (operand_words x) 64 t },
-                again Lines (b ++ Assign (place_in cells c) x ∷ []) u [] g)) h
+            (λ t g. (
+              x,
+              ss,
+              record { spells = subst (λ (y : List Symbol). Spells bytes cells 0 0 y x (S.Semicolon ∷ ss)) (sym r.before) (r.tree 0 (omega arith)); few = omega arith; shallow = at_most (operand_words x) 64 t },
+              again Lines (b ++ Assign (place_in cells c) x ∷ []) u [] g,
+            )) h
         by_frames (f ∷ G) x r e few h = never (Sets c start b out) h
     has_mean s c v b u F h start w = never (Sets c start b out) h
 

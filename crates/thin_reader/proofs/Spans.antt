@@ -1,5 +1,5 @@
 -- The spans of a text's tokens lie in the text.
-use Rattle.std.proofs.Common.{ℕ, zero, suc, ◌<◌, ◌≤◌, List, [], ◌∷◌, length, get_or, arith}
+use Rattle.std.proofs.Common.{ℕ, zero, suc, ◌<◌, ◌≤◌, List, [], ◌∷◌, ◌++◌, length, get_or, arith}
 use Rattle.mars_base.specs.declared.text.Span.{Span}
 use Rattle.mc_tree.specs.declared.token.Token.{Token}
 use Rattle.mc_tree.specs.declared.token.TokenKind.{TokenKind}
@@ -36,3 +36,13 @@ pub inside : (at end : ℕ) (ts : List Token) (i : ℕ) (d : Token) → SpansInO
 inside at end [] i d h lt = absurd (omega arith)
 inside at end (t ∷ ts) zero d (a, b, c) lt = symbol_inside end t.kind t.span (omega arith) (begins_before t.span.to end ts c)
 inside at end (t ∷ ts) (suc i) d (a, b, c) lt = inside t.span.to end ts i d c (omega arith)
+
+-- the end of the text may be later
+pub later_end : (at end more : ℕ) (ts : List Token) → SpansInOrder at ts end → end ≤ more → SpansInOrder at ts more
+later_end at end more [] h le = omega arith
+later_end at end more (t ∷ ts) (a, b, c) le = (a, b, later_end t.span.to end more ts c le)
+
+-- one more token after the others
+pub one_more : (at end : ℕ) (ts : List Token) (t : Token) → SpansInOrder at ts end → end ≤ t.span.from → t.span.from < t.span.to → SpansInOrder at (ts ++ t ∷ []) t.span.to
+one_more at end [] t h le lt = (omega arith, lt, omega arith)
+one_more at end (u ∷ ts) t (a, b, c) le lt = (a, b, one_more u.span.to end ts t c le lt)

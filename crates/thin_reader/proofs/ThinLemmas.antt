@@ -1,25 +1,23 @@
 -- What is spelled is a thin tree.
-use Rattle.std.proofs.Common.{◌≡◌, ℕ, zero, suc, ◌+◌, ◌<◌, ◌≤◌, ◌^◌, List, [], ◌∷◌, ◌++◌, length, arith, refl, ap, ◌∙◌, sym, subst, Option, Some, None, inl, inr, length-append, get_or}
+use Rattle.std.proofs.Common.{◌≡◌, ℕ, zero, suc, ◌+◌, ◌<◌, ◌≤◌, List, [], ◌∷◌, ◌++◌, length, arith, refl, ap, ◌∙◌, sym, subst, Some, inl, inr, length-append, get_or}
 use Rattle.std.specs.Prelude.{slice_get, ◌⊎◌}
 use Rattle.std.specs.Str.{bytes_eq}
-use Rattle.std.proofs.lemmas.Option.{slice_get_within, slice_get-get_or}
+use Rattle.std.proofs.lemmas.Option.{slice_get-get_or}
 use Rattle.std.proofs.lemmas.List.Quantifiers.{position-Some}
-use Rattle.mars_base.specs.declared.word.BinOp.TheVariants as by
 use Rattle.mars_base.specs.declared.word.Role.{Role}
 use Rattle.mars_base.specs.declared.word.Role.TheVariants as role
 use Rattle.mc_tree.specs.declared.tree.Cell.{Cell}
 use Rattle.mc_tree.specs.declared.token.Token.{Token}
-use Rattle.mc_tree.specs.Tree.{Ex, Num, Var, Bin, Assign, Bl, Nil, Then, Tree}
+use Rattle.mc_tree.specs.Tree.{Ex, Bl, Tree}
 use Rattle.mc_tree.specs.Plain.{place_in, place_or_0}
 use Rattle.mc_tree.specs.Tokens.{SpansInOrder}
 use Rattle.thin_reader.specs.declared.symbol.ThinOp.{ThinOp}
 use Rattle.thin_reader.specs.declared.symbol.ThinOp.TheVariants as op
 use Rattle.thin_reader.specs.declared.symbol.Symbol.{Symbol}
-use Rattle.thin_reader.specs.declared.symbol.Symbol.TheVariants as S
 use Rattle.thin_reader.specs.Sizes.{nodes, assignments_length}
-use Rattle.thin_reader.specs.Symbols.{operator, symbol, symbols}
-use Rattle.thin_reader.specs.Thin.{IsPort, IsThinOperator, IsThinEx, IsThinValue, AreThin, IsThin}
-use Rattle.thin_reader.specs.Grammar.{cell_named, port, Spells, number, cell, parens, binary, IsValue, Assignments, none, assigns, Ports, ends, input, output, SpellsTask, task, SpellsThin}
+use Rattle.thin_reader.specs.Symbols.{operator, symbols}
+use Rattle.thin_reader.specs.Thin.{IsPort, IsThinOperator, IsThinEx, AreThin, IsThin}
+use Rattle.thin_reader.specs.Grammar.{cell_named, port, Spells, number, cell, parens, binary, Assignments, none, assigns, Ports, ends, input, output, SpellsTask, task, SpellsThin}
 
 -- each cell is a port's, at the place of its number
 abbrev pub ArePorts : List Cell → Type 0

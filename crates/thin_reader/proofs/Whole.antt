@@ -1,18 +1,15 @@
 -- A thin task is read exactly where it is spelled.
-use Rattle.std.proofs.Common.{◌≡◌, ℕ, ◌≤◌, List, [], ◌∷◌, ◌++◌, length, map, refl, ap, ◌∙◌, sym, subst, Option, Some, None, arith}
-use Rattle.mars_base.specs.declared.text.Span.{Span}
+use Rattle.std.proofs.Common.{◌≡◌, ℕ, ◌≤◌, List, [], ◌∷◌, length, map, refl, ap, ◌∙◌, sym, subst, Some, None, arith}
 use Rattle.mc_tree.specs.declared.tree.Cell.{Cell}
 use Rattle.mc_tree.specs.declared.tree.Func.{Func}
 use Rattle.mc_tree.specs.declared.tree.Task.{Task}
-use Rattle.mc_tree.specs.declared.token.Token.{Token}
 use Rattle.mc_tree.specs.Tree.{St, Bl, Nil, Then, Tree}
 use Rattle.mc_tree.specs.Plain.{block_of, plain_stmt, plain_list, plain_task}
 use Rattle.mc_tree.specs.Tokens.{text_of}
 use Rattle.thin_reader.specs.declared.symbol.Symbol.{Symbol}
 use Rattle.thin_reader.specs.declared.symbol.Symbol.TheVariants as S
 use Rattle.thin_reader.specs.declared.heading.Place.TheVariants.{Start}
-use Rattle.thin_reader.specs.Symbols.{symbols}
-use Rattle.thin_reader.specs.Grammar.{Ports, Assignments, SpellsTask, task, SpellsThin, thin_tree}
+use Rattle.thin_reader.specs.Grammar.{SpellsTask, task, thin_tree}
 use Rattle.thin_reader.specs.declared.ThinFault.{ThinFault}
 use Rattle.thin_reader.specs.declared.ThinFault.TheVariants.{NotBuilt, Memory}
 use Rattle.thin_reader.specs.Plain.{IfNotBuilt}

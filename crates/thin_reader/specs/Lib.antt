@@ -5,3 +5,4 @@ pub mod Grammar
 pub mod Heading
 pub mod Machine
 pub mod Plain
+pub mod Text

@@ -24,15 +24,18 @@ pub data Stage : Type 0 where
   Have : (cell : ℕ) (value : Ex) → Stage
   End : Stage
 
+-- what a symbol makes of what was read: it goes on, or no thin body has the symbol there
 pub data Step : Type 0 where
   Next : (stage : Stage) (body : List St) (used : ℕ) (frames : List Frame) → Step
   Dead : Step
 
+-- how many parentheses are open
 abbrev pub opened : List Frame → ℕ
 opened [] = 0
 opened (Pending op l ∷ F) = opened F
 opened (Paren ∷ F) = suc (opened F)
 
+-- a value, and what waits for it
 pub record Top : Type 0 where
   pub value : Ex
   pub frames : List Frame
@@ -46,23 +49,29 @@ reduce k [] v = top v []
 reduce k (Pending op l ∷ F) v = cond (nat_le k (level op)) (reduce k F (Bin (operator op) l v)) (top v (Pending op l ∷ F))
 reduce k (Paren ∷ F) v = top v (Paren ∷ F)
 
+-- what follows a found cell
 abbrev pub found : Option ℕ → (ℕ → Step) → Step
 found None go = Dead
 found (Some c) go = go c
 
+-- the sign after an assignment's cell
 abbrev pub becomes : Symbol → ℕ → List St → Step
 becomes S.Assign c b = Next (Want c) b 0 []
 becomes s c b = Dead
 
+-- a parenthesis opens, of 63 at most
 abbrev pub deeper : ℕ → List St → ℕ → List Frame → Step
 deeper c b u F = cond (nat_lt (opened F) 63) (Next (Want c) b u (Paren ∷ F)) Dead
 
+-- a number below 2^31
 abbrev pub constant : ℕ → ℕ → List St → ℕ → List Frame → Step
 constant n c b u F = cond (nat_lt n 2147483648) (Next (Have c (Num (pos n))) b u F) Dead
 
+-- an operator, of 255 at most
 abbrev pub operates : ThinOp → ℕ → Ex → List St → ℕ → List Frame → Step
 operates op c v b u F = cond (nat_lt u 255) (Next (Want c) b (suc u) (Pending op (reduce (level op) F v).value ∷ (reduce (level op) F v).frames)) Dead
 
+-- a parenthesis closes
 abbrev pub closes : List Frame → Ex → ℕ → List St → ℕ → Step
 closes [] v c b u = Dead
 closes (Pending op l ∷ F) v c b u = Dead
@@ -82,10 +91,12 @@ ended (Want c) b = None
 ended (Have c v) b = None
 
 module _ (cells : List Cell) where
+  -- an assignment ends, if its value needs at most 64 operand words
   abbrev pub finishes : List Frame → Ex → ℕ → List St → ℕ → Step
   finishes [] v c b u = cond (nat_le (operand_words v) 64) (Next Lines (b ++ Assign (place_in cells c) v ∷ []) u []) Dead
   finishes (f ∷ F) v c b u = Dead
 
+  -- the symbol after an operand
   abbrev pub has : Symbol → ℕ → Ex → List St → ℕ → List Frame → Step
   has (S.Operator op) c v b u F = operates op c v b u F
   has S.CloseParen c v b u F = closes (reduce 0 F v).frames (reduce 0 F v).value c b u
@@ -93,17 +104,20 @@ module _ (cells : List Cell) where
   has s c v b u F = Dead
 
   module _ (bytes : List ℕ) where
+    -- the symbol where an assignment begins
     abbrev pub lines : Symbol → List St → ℕ → List Frame → Step
     lines S.CloseBrace b u F = Next End b u F
     lines (S.Name s) b u F = found (cell_named cells (text_of bytes s)) (λ c. Next (Becomes c) b u F)
     lines s b u F = Dead
 
+    -- the symbol where an operand begins
     abbrev pub wants : Symbol → ℕ → List St → ℕ → List Frame → Step
     wants (S.Number n) c b u F = constant n c b u F
     wants (S.Name s) c b u F = found (cell_named cells (text_of bytes s)) (λ d. Next (Have c (Var (place_in cells d))) b u F)
     wants S.OpenParen c b u F = deeper c b u F
     wants s c b u F = Dead
 
+    -- one symbol
     abbrev pub step : Stage → List St → ℕ → List Frame → Symbol → Step
     step Lines b u F s = lines s b u F
     step (Becomes c) b u F s = becomes s c b
@@ -111,6 +125,7 @@ module _ (cells : List Cell) where
     step (Have c v) b u F s = has s c v b u F
     step End b u F s = Dead
 
+    -- all symbols; the assignments of a body, where they are one
     unfoldable pub run : List Symbol → Stage → List St → ℕ → List Frame → Option (List St)
     run [] st b u F = ended st b
     run (s ∷ ss) st b u F = then (step st b u F s) (run ss)

@@ -38,6 +38,7 @@ assignment_length (Scoped c n a) = 0
 assignment_length (Count c n) = 0
 assignment_length (Series c n l) = 0
 
+-- the instructions of all assignments
 abbrev pub assignments_length : Bl → ℕ
 assignments_length Nil = 0
 assignments_length (Then s b) = assignment_length s + assignments_length b

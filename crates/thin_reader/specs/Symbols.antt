@@ -27,6 +27,7 @@ level op.Add = 0
 level op.Sub = 0
 level op.Mul = 1
 
+-- keywords, signs and other tokens
 abbrev pub key_symbol : Key → Symbol
 key_symbol key.Task = S.Task
 key_symbol key.In = S.In
@@ -52,6 +53,7 @@ kind_symbol (kind.Number n) span = S.Number n
 kind_symbol (kind.Key k) span = key_symbol k
 kind_symbol (kind.Sign s) span = sign_symbol s
 
+-- a token, and all tokens of a text
 abbrev pub symbol : Token → Symbol
 symbol t = kind_symbol t.kind t.span
 

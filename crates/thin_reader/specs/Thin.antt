@@ -13,6 +13,7 @@ pub record IsPort (place : ℕ) (cell : Cell) : Type 0 where
   pub stands : cell.place ≡ place
   pub word : cell.width ≡ 1
 
+-- plus, minus and times
 abbrev pub IsThinOperator : BinOp → Type 0
 IsThinOperator op = (op ≡ Add) ⊎ ((op ≡ Sub) ⊎ (op ≡ Mul))
 
@@ -42,6 +43,7 @@ IsThinSt cells (Scoped c n a) = ⊥
 IsThinSt cells (Count c n) = ⊥
 IsThinSt cells (Series c n l) = ⊥
 
+-- each statement is such an assignment
 abbrev pub AreThin : ℕ → Bl → Type 0
 AreThin cells Nil = Unit {0}
 AreThin cells (Then s b) = IsThinSt cells s × AreThin cells b

@@ -67,6 +67,7 @@ pub fn cell_named(cells: &[Cell], name: &[u8]) -> Option<usize>
     cells.iter().position(|cell| cell.name.as_slice() == name)
 }
 
+/// `task`
 fn starts(symbol: Symbol) -> Step
     ensures { (h : Heading) → heading_step h result ≡ starts symbol h.name h.cells }
 {
@@ -76,6 +77,7 @@ fn starts(symbol: Symbol) -> Step
     }
 }
 
+/// The semicolon after the task's name or a port's.
 fn ends_title(symbol: Symbol) -> Step
     ensures { (h : Heading) → heading_step h result ≡ ends_title symbol h.name h.cells }
 {
@@ -85,6 +87,7 @@ fn ends_title(symbol: Symbol) -> Step
     }
 }
 
+/// `in`, `out` or `body`
 fn begins(symbol: Symbol) -> Step
     ensures { (h : Heading) → heading_step h result ≡ begins symbol h.name h.cells }
 {
@@ -96,6 +99,7 @@ fn begins(symbol: Symbol) -> Step
     }
 }
 
+/// The brace that opens the body.
 fn opens(symbol: Symbol) -> Step
     ensures { (h : Heading) → heading_step h result ≡ opens symbol h.name h.cells }
 {
@@ -106,6 +110,7 @@ fn opens(symbol: Symbol) -> Step
 }
 
 impl Heading {
+    /// The task's name.
     fn title(&mut self, alloc: Global, bytes: &[u8], symbol: Symbol) -> Result<Step, Memory>
         requires { IsInside (length bytes.now) symbol }
         ensures { IfOk result (λ s. heading_step self.new s ≡ titled bytes.now symbol self.old.name self.old.cells) }
@@ -119,6 +124,7 @@ impl Heading {
         }
     }
 
+    /// A port of a name that no other has.
     fn add(&mut self, alloc: Global, role: Role, name: &[u8]) -> Result<Step, Memory>
         ensures { IfOk result (λ s. heading_step self.new s ≡ port_added role name.now self.old.name self.old.cells) }
     {
@@ -138,6 +144,7 @@ impl Heading {
         Ok(Step::Next(Place::PortEnd))
     }
 
+    /// The name of a port.
     fn port(
         &mut self,
         alloc: Global,
@@ -154,6 +161,7 @@ impl Heading {
         }
     }
 
+    /// What a symbol makes of the heading.
     fn advance(
         &mut self,
         alloc: Global,
@@ -179,7 +187,9 @@ impl Heading {
 /// A heading, and how many tokens it takes.
 #[derive(Drop)]
 pub struct Read {
+    /// What was read.
     pub heading: Heading,
+    /// How many tokens it takes, with the brace that opens the body.
     pub taken: usize,
 }
 

@@ -2,11 +2,15 @@
 //! numbers.
 #![tactic(auto)]
 
+mod bare;
 mod body;
 mod heading;
 mod read;
 mod symbol;
+#[cfg(test)]
+mod tests;
 
+pub use bare::is_bare;
 pub use read::read_thin;
 pub use symbol::{Symbol, ThinOp};
 

@@ -87,6 +87,7 @@ impl Symbol {
     }
 }
 
+/// What a keyword is to a thin text.
 fn of_key(key: Key) -> Symbol
     ensures { result ≡ key_symbol key }
 {
@@ -109,6 +110,7 @@ fn of_key(key: Key) -> Symbol
     }
 }
 
+/// What a sign is to a thin text.
 fn of_sign(sign: Sign) -> Symbol
     ensures { result ≡ sign_symbol sign }
 {

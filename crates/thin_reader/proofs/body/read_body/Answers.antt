@@ -1,5 +1,5 @@
-use Rattle.std.proofs.Common.{◌∙◌, ap, sym, length}
-use Rattle.thin_reader.specs.Plain.{IsInside, plain_stage, lines_of, frames_of}
+use Rattle.std.proofs.Common.{◌∙◌, length}
+use Rattle.thin_reader.specs.Plain.{plain_stage, lines_of, frames_of}
 use Rattle.thin_reader.proofs.Spans.{inside}
 use Rattle.thin_reader.proofs.Turns.{body_next, body_dead, body_end, has_ended, has_not_ended}
 use Rattle.thin_reader.proofs.body.read_body.Goals as goal

@@ -1,4 +1,4 @@
-use Rattle.std.proofs.Common.{◌≡◌, ◌≤◌, drop, [], length}
+use Rattle.std.proofs.Common.{◌≡◌, drop, []}
 use Rattle.thin_reader.specs.Symbols.{symbols}
 use Rattle.thin_reader.specs.Machine.{run, Lines}
 use Rattle.thin_reader.specs.Plain.{IsSized, plain_stage, lines_of, frames_of}

@@ -1,6 +1,4 @@
 use Rattle.std.proofs.Common.{◌∙◌, length, drop, ◌+◌}
-use Rattle.thin_reader.specs.Heading as H
-use Rattle.thin_reader.specs.Plain.{IsInside}
 use Rattle.thin_reader.proofs.Spans.{inside}
 use Rattle.thin_reader.specs.Symbols.{symbols}
 use Rattle.thin_reader.proofs.Whole.{heading_few}

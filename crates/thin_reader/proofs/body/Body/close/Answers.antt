@@ -1,5 +1,5 @@
 use Rattle.std.proofs.Common.{arith, []}
-use Rattle.thin_reader.specs.Plain.{plain_frame, stack}
+use Rattle.thin_reader.specs.Plain.{stack}
 use Rattle.mc_tree.specs.Plain.{plain_expr}
 use Rattle.thin_reader.specs.Machine as M
 use Rattle.thin_reader.proofs.Opened.{one_less}

@@ -1,5 +1,4 @@
 use Rattle.std.proofs.Common.{arith}
-use Rattle.std.specs.Prelude.{min}
 use Rattle.thin_reader.specs.Plain.{stack}
 use Rattle.thin_reader.proofs.Ends.{line_ends}
 use Rattle.thin_reader.proofs.body.Body.line.Goals as goal
