@@ -82,9 +82,9 @@ steps_within (suc n) instrs limit s cycles le =
     let next = cycles + cost_at instrs s.pc in
     cond_is (λ e. spent e ≤ limit) (nat_le next limit) _ (Short cycles)
     (λ fits.
-        let fit : next ≤ limit = leb-true next limit fits in
-        after_is (λ e. spent e ≤ limit) (λ t. steps n instrs limit t next) s.words next (step instrs s)
-        (λ t. steps_within n instrs limit t next fit) fit fit)
+    let fit : next ≤ limit = leb-true next limit fits in
+    after_is (λ e. spent e ≤ limit) (λ t. steps n instrs limit t next) s.words next (step instrs s)
+    (λ t. steps_within n instrs limit t next fit) fit fit)
     le
 
 -- an execution that is over took more cycles than it began with
@@ -96,11 +96,11 @@ steps_later (suc n) instrs limit s cycles =
     let later : cycles < next = omega (arith, step_costs instrs s.pc) in
     cond_is (λ e. IsEnded e → cycles < spent e) (nat_le next limit) _ (Short cycles)
     (λ fits.
-        after_is (λ e. IsEnded e → cycles < spent e) (λ t. steps n instrs limit t next) s.words next (step instrs s)
-        (λ t over.
-            let more : next < spent (steps n instrs limit t next) = steps_later n instrs limit t next over in
-            omega arith)
-        (λ _. later) (λ _. later))
+    after_is (λ e. IsEnded e → cycles < spent e) (λ t. steps n instrs limit t next) s.words next (step instrs s)
+    (λ t over.
+    let more : next < spent (steps n instrs limit t next) = steps_later n instrs limit t next over in
+    omega arith)
+    (λ _. later) (λ _. later))
     (λ over. absurd over)
 
 -- two continuations that agree where the first is over

@@ -23,7 +23,7 @@ pub struct Machine {
 impl Machine {
     ghost use Rattle.word_machine.specs.Machine.{CanStep, Stepped};
 
-    /// A machine with no program.
+    /// A machine with no program; what its calls answer before the first `load` is open.
     pub fn new(alloc: Global) -> Result<Machine, Memory> {
         let words = Places::new(alloc)?;
         let counters = Counters::new(alloc)?;

@@ -59,7 +59,12 @@ fn run(
     outs: &mut [i32],
 ) -> Result<(Turn, u32), Memory>
     requires verified { IsVerified (record {
-        starts = starts.now; instrs = slots.now; places = places; counters = counters; cells = cells.now }) }
+      starts = starts.now;
+      instrs = slots.now;
+      places = places;
+      counters = counters;
+      cells = cells.now;
+    }) }
     requires state { length state.old ≡ width_of is_state cells.now }
     requires ins { length ins.now ≡ width_of is_in cells.now }
     requires outs { length outs.old ≡ width_of is_out cells.now }
