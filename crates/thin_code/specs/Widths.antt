@@ -1,0 +1,14 @@
+-- How many words code takes and gives beside its tree. This project's own.
+use Rattle.std.specs.Prelude.{◌≡◌, ◌+◌, ◌≤◌}
+use Rattle.mc_tree.specs.Instance.{is_in, is_out, is_state, width_of}
+use Rattle.mc_tree.specs.Tree.{Tree}
+use Rattle.word_machine.specs.Cells as machine
+use Rattle.word_machine.specs.declared.code.Code.{Code}
+
+-- the code takes and gives as many words as the tree: no state, and at most 16 in and out words together
+pub record HasWidths (t : Tree) (code : Code) : Type 0 where
+  pub ins : machine.width_of machine.is_in code.cells ≡ width_of is_in t.cells
+  pub outs : machine.width_of machine.is_out code.cells ≡ width_of is_out t.cells
+  pub states : machine.width_of machine.is_state code.cells ≡ width_of is_state t.cells
+  pub stateless : width_of is_state t.cells ≡ 0
+  pub few : width_of is_in t.cells + width_of is_out t.cells ≤ 16
