@@ -1,0 +1,13 @@
+pub mod Answering
+pub mod Blocks
+pub mod Circles
+pub mod Entries
+pub mod JobLists
+pub mod Listed
+pub mod Masks
+pub mod Multiples
+pub mod Numbers
+pub mod Parts
+pub mod Remaining
+pub mod Whole
+pub mod Within

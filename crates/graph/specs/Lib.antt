@@ -1,0 +1,14 @@
+pub mod Blocks
+pub mod Cycle
+pub mod Faults
+pub mod GraphOf
+pub mod JobGraph
+pub mod Jobs
+pub mod Masks
+pub mod Name
+pub mod Net
+pub mod Order
+pub mod Rules
+pub mod Sound
+pub mod TaskOrder
+pub mod TaskRemaining

@@ -1,0 +1,48 @@
+//! Whether a net is sound.
+ghost use Rattle.std.specs.Prelude.{◌↔◌, ℕ, IsTrue, IfOk};
+ghost use Rattle.graph.specs.Cycle.{IsWithinLimits};
+ghost use Rattle.graph.specs.Sound.{IsSound, KeepsEntryRules};
+
+use crate::limits::cycle_within;
+use crate::net::Net;
+use crate::order::order_tasks;
+use crate::rules::{has_counts, has_entries, has_names, is_fed_once, is_shape};
+use mars_base::Memory;
+use std::alloc::Global;
+
+/// Whether the net keeps all rules but those on circles and on the limits of a cycle.
+fn keeps_entry_rules(net: &Net) -> bool
+    ensures { IsTrue result ↔ KeepsEntryRules net.now }
+{
+    if !is_shape(&net.shape) {
+        return false;
+    }
+    if !has_counts(net) {
+        return false;
+    }
+    if !has_entries(net) {
+        return false;
+    }
+    is_fed_once(net) && has_names(net)
+}
+
+/// Whether a cycle of the net is within the limits.
+fn is_within_limits(net: &Net) -> bool
+    requires { KeepsEntryRules net.now }
+    ensures { IsTrue result ↔ ((cycle : ℕ) × IsWithinLimits net.now cycle) }
+{
+    cycle_within(net).is_ok()
+}
+
+/// Whether the net is sound. It may be any net: one from bytes of unknown origin is answered too.
+pub fn sound(alloc: Global, net: &Net) -> Result<bool, Memory>
+    ensures { IfOk result (λ answer. IsTrue answer ↔ IsSound net.now) }
+{
+    if !keeps_entry_rules(net) {
+        return Ok(false);
+    }
+    let Some(_order) = order_tasks(alloc, net)? else {
+        return Ok(false);
+    };
+    Ok(is_within_limits(net))
+}
