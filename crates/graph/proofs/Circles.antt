@@ -24,30 +24,33 @@ rank_before (y ∷ ys) k zero x low inside e = rw (eq-eqb y x e) (omega (arith, 
 rank_before (y ∷ ys) zero (suc i) x low inside e = absurd (omega (arith, low))
 rank_before (y ∷ ys) (suc k) (suc i) x low inside e =
     let r = rank_before ys k i x (omega (arith, low)) (omega (arith, inside)) e in
-    elim (cases_eq y x) [ | inl same ↦ rw (eq-eqb y x same) (omega arith) | inr other ↦ rw (ne_eqb y x other) (omega (arith, r)) ]
+    elim (cases_eq y x) [ inl same ↦ rw (eq-eqb y x same) (omega arith) | inr other ↦ rw (ne_eqb y x other) (omega (arith, r)) ]
 
 rank_from : (xs : List ℕ) (k x : ℕ) → k ≤ length xs → (Contains (take k xs) x → ⊥) → k ≤ rank_in xs x
 unfolding rank_in
 rank_from [] k x fits not = omega (arith, fits)
 rank_from (y ∷ ys) zero x fits not = omega arith
 rank_from (y ∷ ys) (suc k) x fits not = elim (cases_eq y x) [
-    | inl same ↦ absurd (not (zero, omega arith, same))
-    | inr other ↦ rw (ne_eqb y x other) (let r = rank_from ys k x (omega (arith, fits)) (λ w. not (suc w.0, omega (arith, w.1), w.2)) in omega (arith, r))
-  ]
+  | inl same ↦ absurd (not (zero, omega arith, same))
+  | inr other ↦ rw (ne_eqb y x other) (let r = rank_from ys k x (omega (arith, fits)) (λ w. not (suc w.0, omega (arith, w.1), w.2)) in omega (arith, r))
+]
 
 -- an order ranks the tasks
 pub ranked : (net : Net) → HasEntries net → (tasks : List ℕ) → IsOrder (Feeds net) (length net.tasks) tasks → HasNoCircle net
-ranked net entries tasks order = (rank_in tasks, λ i d low.
-    let e = get_or net.edges i d in
-    let is = entries.edges i d low in
-    let to = place_of tasks e.to_task (order.whole e.to_task is.to_task) in
-    let same : get_or tasks to.0 0 ≡ e.to_task = to.2 in
-    let next = order.each to.0 to.1 in
-    let edge : Feeds net e.from_task (get_or tasks to.0 0) = (i, e, low, again net.edges i d low, (refl, sym same)) in
-    let from = before_place tasks to.0 e.from_task (next.ready.all_before e.from_task edge) in
-    let below = rank_before tasks to.0 from.0 e.from_task from.1 from.2 from.3 in
-    let above = rank_from tasks to.0 e.to_task (omega (arith, to.1)) (subst (λ x. Contains (take to.0 tasks) x → ⊥) same next.ready.is_new) in
-    omega (arith, below, above))
+ranked net entries tasks order = (
+  rank_in tasks,
+  λ i d low.
+      let e = get_or net.edges i d in
+      let is = entries.edges i d low in
+      let to = place_of tasks e.to_task (order.whole e.to_task is.to_task) in
+      let same : get_or tasks to.0 0 ≡ e.to_task = to.2 in
+      let next = order.each to.0 to.1 in
+      let edge : Feeds net e.from_task (get_or tasks to.0 0) = (i, e, low, again net.edges i d low, (refl, sym same)) in
+      let from = before_place tasks to.0 e.from_task (next.ready.all_before e.from_task edge) in
+      let below = rank_before tasks to.0 from.0 e.from_task from.1 from.2 from.3 in
+      let above = rank_from tasks to.0 e.to_task (omega (arith, to.1)) (subst (λ x. Contains (take to.0 tasks) x → ⊥) same next.ready.is_new) in
+      omega (arith, below, above),
+)
   where
     again : (es : List Edge) (i : ℕ) (d : Edge) → i < length es → get_or es i (get_or es i d) ≡ get_or es i d
     again es i d low = get_or_default es i (get_or es i d) d low
@@ -56,15 +59,15 @@ ranked net entries tasks order = (rank_in tasks, λ i d low.
 producers : (es : List Edge) (list : List ℕ) (t : ℕ) → ((p : ℕ) → GoesBetween es p t → Contains list p) ⊎ ((p : ℕ) × GoesBetween es p t × (Contains list p → ⊥))
 producers [] list t = inl (λ p w. absurd (omega (arith, w.2)))
 producers (e ∷ es) list t = elim (producers es list t) [
-    | inr w ↦ inr (w.0, (suc w.1.0, w.1.1, omega (arith, w.1.2), w.1.3, w.1.4), w.2)
-    | inl all ↦ elim (cases_eq e.to_task t) [
-      | inr other ↦ inl (λ p w. rest all p w (λ x. other x.1))
-      | inl here ↦ elim (stands list e.from_task) [
-        | inr new ↦ inr (e.from_task, (zero, e, omega arith, refl, (refl, here)), new)
-        | inl old ↦ inl (λ p w. elim (cases_eq e.from_task p) [ | inl same ↦ subst (Contains list) same old | inr other ↦ rest all p w (λ x. other x.0) ])
-      ]
+  | inr w ↦ inr (w.0, (suc w.1.0, w.1.1, omega (arith, w.1.2), w.1.3, w.1.4), w.2)
+  | inl all ↦ elim (cases_eq e.to_task t) [
+    | inr other ↦ inl (λ p w. rest all p w (λ x. other x.1))
+    | inl here ↦ elim (stands list e.from_task) [
+      | inr new ↦ inr (e.from_task, (zero, e, omega arith, refl, (refl, here)), new)
+      | inl old ↦ inl (λ p w. elim (cases_eq e.from_task p) [ inl same ↦ subst (Contains list) same old | inr other ↦ rest all p w (λ x. other x.0) ])
     ]
   ]
+]
   where
     rest : ((p : ℕ) → GoesBetween es p t → Contains list p) → (p : ℕ) → GoesBetween (e ∷ es) p t → ((e.from_task ≡ p) × (e.to_task ≡ t) → ⊥) → Contains list p
     rest all p w not = tail w.0 w.1 w.2 w.3 w.4
@@ -75,7 +78,7 @@ producers (e ∷ es) list t = elim (producers es list t) [
 
 -- where no task is ready, and some task is left out, edges go in a circle
 pub circle : (net : Net) → HasEntries net → (tasks : List ℕ) → IsInOrder (Feeds net) (length net.tasks) tasks → length tasks < length net.tasks →
-  ((t : ℕ) → t < length net.tasks → IsReady (Feeds net) (length net.tasks) tasks t → ⊥) → HasNoCircle net → ⊥
+    ((t : ℕ) → t < length net.tasks → IsReady (Feeds net) (length net.tasks) tasks t → ⊥) → HasNoCircle net → ⊥
 circle net entries tasks order few none (rank, goes) =
     let w = left_out (Feeds net) (length net.tasks) tasks order few in
     stuck (suc (rank w.0)) w.0 (omega arith) w.1 w.2
@@ -83,11 +86,11 @@ circle net entries tasks order few none (rank, goes) =
     stuck : (m t : ℕ) → rank t < m → t < length net.tasks → (Contains tasks t → ⊥) → ⊥
     stuck zero t low inside new = absurd (omega (arith, low))
     stuck (suc m) t low inside new = elim (producers net.edges tasks t) [
-        | inl all ↦ none t inside (record { is_one = inside; is_new = new; all_before = all })
-        | inr p ↦
+      | inl all ↦ none t inside (record { is_one = inside; is_new = new; all_before = all })
+      | inr p ↦
           let f : Feeds net p.0 t = p.1 in
           let up : rank p.1.1.from_task < rank p.1.1.to_task = subst (λ (x : Edge). rank x.from_task < rank x.to_task) p.1.3 (goes p.1.0 p.1.1 p.1.2) in
           let from : rank p.1.1.from_task ≡ rank p.0 = ap rank p.1.4.0 in
           let to : rank p.1.1.to_task ≡ rank t = ap rank p.1.4.1 in
           stuck m p.0 (omega (arith, low, up, from, to)) (joined net entries p.0 t f).0 p.2
-      ]
+    ]

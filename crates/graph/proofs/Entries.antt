@@ -17,9 +17,9 @@ All_at P xs i x all e = subst P (get_or_from_slice_get xs i x x e) (all i x (sli
 -- the task with a number
 pub task_at : (net : Net) → HasEntries net → (t : ℕ) → t < length net.tasks → (task : NetTask) × (slice_get net.tasks t ≡ Some task) × IsTask net task
 task_at net h t low = elim (slice_get_cases net.tasks t).1 [
-    | inl w ↦ (w.0, w.2, All_at (IsTask net) net.tasks t w.0 h.tasks w.2)
-    | inr w ↦ absurd (omega (arith, low, w.0))
-  ]
+  | inl w ↦ (w.0, w.2, All_at (IsTask net) net.tasks t w.0 h.tasks w.2)
+  | inr w ↦ absurd (omega (arith, low, w.0))
+]
 
 -- the transaction of the task with a number
 pub transaction_at : (net : Net) → HasEntries net → (t : ℕ) → t < length net.tasks → (transaction : Transaction) × (slice_get net.transactions (transaction_of net t) ≡ Some transaction) × IsTransaction transaction
@@ -42,15 +42,15 @@ period_limits net h t low =
 -- a task with in ports is one of the net's, and has at most 16 of them
 pub few_ports : (net : Net) → HasEntries net → (t : ℕ) → length (ins_of net t) ≤ 16
 few_ports net h t = elim (slice_get_cases net.tasks t).1 [
-    | inl w ↦ (let is : ins_of net t ≡ w.0.ins = ap task_ins w.2 in rw is (omega (arith, (All_at (IsTask net) net.tasks t w.0 h.tasks w.2).ports)))
-    | inr w ↦ (let is : ins_of net t ≡ task_ins None = ap task_ins w.1 in rw is (omega arith))
-  ]
+  | inl w ↦ (let is : ins_of net t ≡ w.0.ins = ap task_ins w.2 in rw is (omega (arith, (All_at (IsTask net) net.tasks t w.0 h.tasks w.2).ports)))
+  | inr w ↦ (let is : ins_of net t ≡ task_ins None = ap task_ins w.1 in rw is (omega arith))
+]
 
 pub ports_in : (net : Net) (t port : ℕ) → port < length (ins_of net t) → t < length net.tasks
 ports_in net t port low = elim (slice_get_cases net.tasks t).1 [
-    | inl w ↦ w.1
-    | inr w ↦ (let is : ins_of net t ≡ task_ins None = ap task_ins w.1 in absurd (omega (arith, low, ap length is)))
-  ]
+  | inl w ↦ w.1
+  | inr w ↦ (let is : ins_of net t ≡ task_ins None = ap task_ins w.1 in absurd (omega (arith, low, ap length is)))
+]
 
 -- tasks that an edge joins are the net's, and have one period
 pub joined : (net : Net) → HasEntries net → (p q : ℕ) → Feeds net p q → (p < length net.tasks) × (q < length net.tasks) × (period_of net p ≡ period_of net q)

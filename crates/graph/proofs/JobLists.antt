@@ -37,14 +37,14 @@ job_there net h lengths (suc n) t i d low inside =
     let e = length-jobs_of net h lengths n in
     elim (cases_eq t n) [
       | inl last ↦
-        let far : length (jobs_of net h lengths n) + i ≡ job_number net h t i = (let f : first_job net h t ≡ first_job net h n = ap (first_job net h) last in omega (arith, e, f)) in
-        ap (λ k. get_or (jobs_of net h lengths n ++ jobs_of_task net lengths n (instances net h n)) k d) (sym far)
-        ∙ after (jobs_of net h lengths n) (jobs_of_task net lengths n (instances net h n)) d i
-        ∙ job_of_task net lengths n (instances net h n) i d (subst (λ x. i < instances net h x) last inside)
-        ∙ ap (λ x. job_of net lengths x i) (sym last)
+          let far : length (jobs_of net h lengths n) + i ≡ job_number net h t i = (let f : first_job net h t ≡ first_job net h n = ap (first_job net h) last in omega (arith, e, f)) in
+          ap (λ k. get_or (jobs_of net h lengths n ++ jobs_of_task net lengths n (instances net h n)) k d) (sym far)
+          ∙ after (jobs_of net h lengths n) (jobs_of_task net lengths n (instances net h n)) d i
+          ∙ job_of_task net lengths n (instances net h n) i d (subst (λ x. i < instances net h x) last inside)
+          ∙ ap (λ x. job_of net lengths x i) (sym last)
       | inr other ↦
-        let f = later_task net h t n (omega (arith, low, other)) in
-        get_or_append_left (jobs_of net h lengths n) (jobs_of_task net lengths n (instances net h n)) d (job_number net h t i) (omega (arith, e, f, inside)) ∙ job_there net h lengths n t i d (omega (arith, low, other)) inside
+          let f = later_task net h t n (omega (arith, low, other)) in
+          get_or_append_left (jobs_of net h lengths n) (jobs_of_task net lengths n (instances net h n)) d (job_number net h t i) (omega (arith, e, f, inside)) ∙ job_there net h lengths n t i d (omega (arith, low, other)) inside
     ]
   where
     after : (xs ys : List Job) (d : Job) (i : ℕ) → get_or (xs ++ ys) (length xs + i) d ≡ get_or ys i d

@@ -19,9 +19,9 @@ has_true : (x : ℕ) (xs : List ℕ) → has x xs ≡ true → Contains xs x
 unfolding has
 has_true x [] e = absurd (false≢true e)
 has_true x (y ∷ ys) e = elim (or_cases (nat_eq y x) (has x ys) e) [
-    | inl h ↦ (zero, omega arith, eqb-true y x h)
-    | inr h ↦ contains_tail y ys x (has_true x ys h)
-  ]
+  | inl h ↦ (zero, omega arith, eqb-true y x h)
+  | inr h ↦ contains_tail y ys x (has_true x ys h)
+]
 
 has_at : (xs : List ℕ) (k x : ℕ) → k < length xs → get_or xs k x ≡ x → has x xs ≡ true
 unfolding has
@@ -38,7 +38,7 @@ has_false x xs e h = true≢false (sym (has_at xs h.0 x h.1 h.2) ∙ e)
 
 -- a number stands in a list or not
 pub stands : (xs : List ℕ) (x : ℕ) → Contains xs x ⊎ (Contains xs x → ⊥)
-stands xs x = elim (cases_Bool (has x xs)) [ | inl e ↦ inl (has_true x xs e) | inr e ↦ inr (has_false x xs e) ]
+stands xs x = elim (cases_Bool (has x xs)) [ inl e ↦ inl (has_true x xs e) | inr e ↦ inr (has_false x xs e) ]
 
 has_push : (x : ℕ) (xs : List ℕ) (y : ℕ) → has x (xs ++ y ∷ []) ≡ (has x xs || nat_eq y x)
 unfolding has
@@ -83,52 +83,54 @@ missing_push : (n : ℕ) (xs : List ℕ) (y : ℕ) → y < n → (Contains xs y 
 unfolding missing absent
 missing_push zero xs y low new = absurd (omega (arith, low))
 missing_push (suc n) xs y low new = elim (cases_eq y n) [
-    | inl e ↦
+  | inl e ↦
       let now : has n (xs ++ y ∷ []) ≡ true = has_push n xs y ∙ with_true (has n xs) (nat_eq y n) (eq-eqb y n e) in
       let before : has n xs ≡ false = fresh n (subst (λ z. Contains xs z → ⊥) e new) in
       let past = missing_past n xs y (omega (arith, e)) in
       rw (now, before) (omega (arith, past))
-    | inr e ↦
+  | inr e ↦
       let same : has n (xs ++ y ∷ []) ≡ has n xs = has_push n xs y ∙ other (has n xs) (nat_eq y n) (ne_eqb y n e) in
       let less = missing_push n xs y (omega (arith, low, e)) new in
       rw same (omega (arith, less))
-  ]
+]
   where
     with_true : (a b : Bool) → b ≡ true → (a || b) ≡ true
     with_true true b e = refl
     with_true false b e = e
+
     other : (a b : Bool) → b ≡ false → (a || b) ≡ a
     other true b e = refl
     other false b e = e
+
     fresh : (z : ℕ) → (Contains xs z → ⊥) → has z xs ≡ false
-    fresh z h = elim (cases_Bool (has z xs)) [ | inl e ↦ absurd (h (has_true z xs e)) | inr e ↦ e ]
+    fresh z h = elim (cases_Bool (has z xs)) [ inl e ↦ absurd (h (has_true z xs e)) | inr e ↦ e ]
 
 missing_zero : (n : ℕ) (xs : List ℕ) → missing n xs ≡ 0 → (x : ℕ) → x < n → Contains xs x
 unfolding missing absent
 missing_zero zero xs e x low = absurd (omega (arith, low))
 missing_zero (suc n) xs e x low = elim (cases_Bool (has n xs)) [
-    | inl h ↦ elim (cases_eq x n) [
-      | inl s ↦ subst (Contains xs) (sym s) (has_true n xs h)
-      | inr s ↦ missing_zero n xs (omega (arith, e)) x (omega (arith, low, s))
-    ]
-    | inr h ↦ absurd (let one : absent (has n xs) ≡ 1 = ap absent h in omega (arith, e, one))
+  | inl h ↦ elim (cases_eq x n) [
+    | inl s ↦ subst (Contains xs) (sym s) (has_true n xs h)
+    | inr s ↦ missing_zero n xs (omega (arith, e)) x (omega (arith, low, s))
   ]
+  | inr h ↦ absurd (let one : absent (has n xs) ≡ 1 = ap absent h in omega (arith, e, one))
+]
 
 -- some number that doesn't stand in the list
 missing_some : (n : ℕ) (xs : List ℕ) → 0 < missing n xs → (x : ℕ) × (x < n) × (Contains xs x → ⊥)
 unfolding missing absent
 missing_some zero xs h = absurd (omega (arith, h))
 missing_some (suc n) xs h = elim (cases_Bool (has n xs)) [
-    | inl e ↦ (let w = missing_some n xs (let none : absent (has n xs) ≡ 0 = ap absent e in omega (arith, h, none)) in (w.0, omega (arith, w.1), w.2))
-    | inr e ↦ (n, omega arith, has_false n xs e)
-  ]
+  | inl e ↦ (let w = missing_some n xs (let none : absent (has n xs) ≡ 0 = ap absent e in omega (arith, h, none)) in (w.0, omega (arith, w.1), w.2))
+  | inr e ↦ (n, omega arith, has_false n xs e)
+]
 
 missing_all : (n : ℕ) (xs : List ℕ) → ((x : ℕ) → x < n → Contains xs x) → missing n xs ≡ 0
 unfolding missing absent
 missing_all zero xs h = refl
 missing_all (suc n) xs h =
     let less = missing_all n xs (λ x low. h x (omega (arith, low))) in
-    let last : has n xs ≡ true = elim (cases_Bool (has n xs)) [ | inl e ↦ e | inr e ↦ absurd (has_false n xs e (h n (omega arith))) ] in
+    let last : has n xs ≡ true = elim (cases_Bool (has n xs)) [ inl e ↦ e | inr e ↦ absurd (has_false n xs e (h n (omega arith))) ] in
     rw last (omega (arith, less))
 
 -- each place of a list in order names one number more
@@ -164,14 +166,14 @@ pub in_order_push : (B : ℕ → ℕ → Type 0) (n : ℕ) (xs : List ℕ) (x : 
 in_order_push B n xs x h next place low =
     elim (cases_lt place (length xs)) [
       | inl inside ↦
-        let front : take place (xs ++ x ∷ []) ≡ take place xs = take-append-le place xs (x ∷ []) (omega (arith, inside)) in
-        let same : get_or (xs ++ x ∷ []) place 0 ≡ get_or xs place 0 = get_or_append_left xs (x ∷ []) 0 place inside in
-        rw (front, same) (h place inside)
+          let front : take place (xs ++ x ∷ []) ≡ take place xs = take-append-le place xs (x ∷ []) (omega (arith, inside)) in
+          let same : get_or (xs ++ x ∷ []) place 0 ≡ get_or xs place 0 = get_or_append_left xs (x ∷ []) 0 place inside in
+          rw (front, same) (h place inside)
       | inr past ↦
-        let last : place ≡ length xs = (let n = length-append xs (x ∷ []) in omega (arith, low, past, n)) in
-        let front : take place (xs ++ x ∷ []) ≡ xs = ap (λ i. take i (xs ++ x ∷ [])) last ∙ take-append_seam xs (x ∷ []) in
-        let same : get_or (xs ++ x ∷ []) place 0 ≡ x = get_or_push xs x 0 place (sym last) in
-        rw (front, same) next
+          let last : place ≡ length xs = (let n = length-append xs (x ∷ []) in omega (arith, low, past, n)) in
+          let front : take place (xs ++ x ∷ []) ≡ xs = ap (λ i. take i (xs ++ x ∷ [])) last ∙ take-append_seam xs (x ∷ []) in
+          let same : get_or (xs ++ x ∷ []) place 0 ≡ x = get_or_push xs x 0 place (sym last) in
+          rw (front, same) next
     ]
 
 -- the place of a number that stands in the list
@@ -200,9 +202,9 @@ apart B n xs h i k low fits e = (h k fits).ready.is_new (subst (Contains (take k
 
 pub one_place : (B : ℕ → ℕ → Type 0) (n : ℕ) (xs : List ℕ) → IsInOrder B n xs → (i k : ℕ) → i < length xs → k < length xs → get_or xs i 0 ≡ get_or xs k 0 → i ≡ k
 one_place B n xs h i k a b e = elim (cases_lt i k) [
-    | inl low ↦ absurd (apart B n xs h i k low b e)
-    | inr high ↦ elim (cases_eq i k) [
-      | inl same ↦ same
-      | inr other ↦ absurd (apart B n xs h k i (omega (arith, high, other)) a (sym e))
-    ]
+  | inl low ↦ absurd (apart B n xs h i k low b e)
+  | inr high ↦ elim (cases_eq i k) [
+    | inl same ↦ same
+    | inr other ↦ absurd (apart B n xs h k i (omega (arith, high, other)) a (sym e))
   ]
+]

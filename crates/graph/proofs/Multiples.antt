@@ -20,6 +20,7 @@ scaled_rest (suc n) a b some =
   where
     scaled_lt : (n x y : ℕ) → x < y → suc n * x < suc n * y
     scaled_lt n x y h = let more : (x + 1) * suc n ≤ y * suc n = mul-le-mul_right (suc n) (omega (arith, h)) in omega (arith, more, mul_comm (suc n) x, mul_comm (suc n) y)
+
     scaled_whole : (n q r a b : ℕ) → q * b + r ≡ a → q * (n * b) + n * r ≡ n * a
     scaled_whole n q r a b e = let h : n * (q * b + r) ≡ n * a = ap (λ x. n * x) e in omega (arith, h)
 
@@ -27,12 +28,12 @@ scaled_rest (suc n) a b some =
 gcd_of : (m a b : ℕ) → b < m → (g : ℕ) × ((n : ℕ) → IsGcd (n * a) (n * b) (n * g))
 gcd_of zero a b low = absurd (omega (arith, low))
 gcd_of (suc m) a b low = elim (cases_eq b 0) [
-    | inl e ↦ (a, λ n. IsGcd-from_zero (n * a) (n * b) (ap (λ x. n * x) e ∙ omega arith))
-    | inr e ↦
+  | inl e ↦ (a, λ n. IsGcd-from_zero (n * a) (n * b) (ap (λ x. n * x) e ∙ omega arith))
+  | inr e ↦
       let some : 0 < b = omega (arith, e) in
       let w = gcd_of m b (a % b) (omega (arith, low, mod-lt a some)) in
       (w.0, λ n. IsGcd-from_mod (n * a) (n * b) (n * w.0) (subst (λ x. IsGcd (n * b) x (n * w.0)) (sym (scaled_rest n a b some)) (w.1 n)))
-  ]
+]
 
 -- the greatest common divisor scales
 scaled : (a b g n : ℕ) → IsGcd a b g → IsGcd (n * a) (n * b) (n * g)
@@ -51,23 +52,27 @@ multiple_by a b g some some' is =
     let a_is : a / g * g ≡ a = div-mul_cancel g is.0 in
     let b_is : b / g * g ≡ b = div-mul_cancel g is.1 in
     let both : a / g * b * g ≡ a * b = regroup (a / g) b g ∙ ap (λ x. x * b) a_is in
-    let by_a : a * (b / g) ≡ a / g * b = ap (λ x. x * (b / g)) (sym a_is) ∙ shift (a / g) g (b / g) ∙ ap (λ x. a / g * x) b_is in
-    (record {
-      common = All-cons (λ n. Divides n (a / g * b)) a (b ∷ []) (mod-eq-zero_of_dvd a (subst (λ x. a ∣ x) by_a (dvd-mul_right a (b / g))))
-        (All-cons (λ n. Divides n (a / g * b)) b [] (mod-eq-zero_of_dvd b (dvd-mul_left b (a / g))) (All-nil (λ n. Divides n (a / g * b))));
-      least = λ n all.
-        let a_in : a ∣ n = dvd_of_mod-eq-zero a (All-head (λ k. Divides k n) a (b ∷ []) all) in
-        let b_in : b ∣ n = dvd_of_mod-eq-zero b (All-head (λ k. Divides k n) b [] (All-tail (λ k. Divides k n) a (b ∷ []) all)) in
-        let left : a * b ∣ n * a = subst (λ x. a * b ∣ x) (mul_comm a n) (mul-dvd-mul_left b a b_in) in
-        let right : a * b ∣ n * b = mul-dvd-mul_right a a_in b in
-        let whole : a / g * b * g ∣ n * g = subst (λ x. x ∣ n * g) (sym both) ((scaled a b g n is).2 (a * b) left right) in
-        mod-eq-zero_of_dvd (a / g * b) (dvd_of_mul-dvd-mul_right (a / g * b) g_some whole);
-    }, positive (a / g * b) g a b both some some')
+    let by_a : a * (b / g) ≡ a / g * b = ap (λ x. x * (b / g)) (sym a_is) ∙ shift (a / g) g (b / g) ∙ ap (λ x. a / g * x) b_is in (
+      record {
+        common = All-cons (λ n. Divides n (a / g * b)) a (b ∷ []) (mod-eq-zero_of_dvd a (subst (λ x. a ∣ x) by_a (dvd-mul_right a (b / g))))
+            (All-cons (λ n. Divides n (a / g * b)) b [] (mod-eq-zero_of_dvd b (dvd-mul_left b (a / g))) (All-nil (λ n. Divides n (a / g * b))));
+        least = λ n all.
+            let a_in : a ∣ n = dvd_of_mod-eq-zero a (All-head (λ k. Divides k n) a (b ∷ []) all) in
+            let b_in : b ∣ n = dvd_of_mod-eq-zero b (All-head (λ k. Divides k n) b [] (All-tail (λ k. Divides k n) a (b ∷ []) all)) in
+            let left : a * b ∣ n * a = subst (λ x. a * b ∣ x) (mul_comm a n) (mul-dvd-mul_left b a b_in) in
+            let right : a * b ∣ n * b = mul-dvd-mul_right a a_in b in
+            let whole : a / g * b * g ∣ n * g = subst (λ x. x ∣ n * g) (sym both) ((scaled a b g n is).2 (a * b) left right) in
+            mod-eq-zero_of_dvd (a / g * b) (dvd_of_mul-dvd-mul_right (a / g * b) g_some whole);
+      },
+      positive (a / g * b) g a b both some some',
+    )
   where
     regroup : (x b g : ℕ) → x * b * g ≡ x * g * b
     regroup x b g = omega arith
+
     shift : (x g y : ℕ) → x * g * y ≡ x * (y * g)
     shift x g y = omega arith
+
     positive : (m g a b : ℕ) → m * g ≡ a * b → 0 < a → 0 < b → 0 < m
     positive m g a b e h h' = elim (cases_eq m 0) [
       | inl z ↦ absurd (let more : 1 * b ≤ a * b = mul-le-mul_right b (omega (arith, h)) in let none : m * g ≡ 0 * g = ap (λ x. x * g) z in omega (arith, e, more, none, h'))
@@ -94,8 +99,10 @@ multiple_more xs h p m is more =
   where
     through : (h m k : ℕ) → Divides h m → Divides k h → Divides k m
     through h m k one two = mod-eq-zero_of_dvd k (dvd_trans k (dvd_of_mod-eq-zero k two) (dvd_of_mod-eq-zero h one))
+
     front : (n : ℕ) → All (λ k. Divides k n) (xs ++ p ∷ []) → All (λ k. Divides k n) xs
     front n all = All_front (λ k. Divides k n) xs (p ∷ []) all
+
     back : (n : ℕ) → All (λ k. Divides k n) (xs ++ p ∷ []) → All (λ k. Divides k n) (p ∷ [])
     back n all = All_back (λ k. Divides k n) xs (p ∷ []) all
 
@@ -119,10 +126,12 @@ some_multiple : (xs : List ℕ) → All (λ x. 1 ≤ x) xs → (n : ℕ) × (0 <
 some_multiple [] all = (1, omega arith, All-nil (λ x. Divides x 1))
 some_multiple (x ∷ xs) all =
     let w = some_multiple xs (All-tail (λ y. 1 ≤ y) x xs all) in
-    let some : 1 ≤ x = All-head (λ y. 1 ≤ y) x xs all in
-    (x * w.0, (let more : 1 * w.0 ≤ x * w.0 = mul-le-mul_right w.0 some in omega (arith, more, w.1)),
+    let some : 1 ≤ x = All-head (λ y. 1 ≤ y) x xs all in (
+      x * w.0,
+      (let more : 1 * w.0 ≤ x * w.0 = mul-le-mul_right w.0 some in omega (arith, more, w.1)),
       All-cons (λ y. Divides y (x * w.0)) x xs (mod-eq-zero_of_dvd x (dvd-mul_right x w.0))
-        (λ k d low. mod-eq-zero_of_dvd (get_or xs k d) (dvd_trans (get_or xs k d) (dvd_of_mod-eq-zero (get_or xs k d) (w.2 k d low)) (dvd-mul_left w.0 x))))
+          (λ k d low. mod-eq-zero_of_dvd (get_or xs k d) (dvd_trans (get_or xs k d) (dvd_of_mod-eq-zero (get_or xs k d) (w.2 k d low)) (dvd-mul_left w.0 x))),
+    )
 
 -- so their least common multiple is above 0
 pub multiple_some : (xs : List ℕ) (m : ℕ) → All (λ x. 1 ≤ x) xs → IsLeastMultiple xs m → 0 < m

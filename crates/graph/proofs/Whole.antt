@@ -27,32 +27,32 @@ tasks_of_jobs net h lengths k d low =
 
 mapped_few : (jobs : List Job) (g : Job → ℕ) (b : ℕ) → ((j : Job) → g j ≤ b) → (k : ℕ) → get_or (map g jobs) k 0 ≤ b
 mapped_few jobs g b all k = elim (cases_lt k (length (map g jobs))) [
-    | inr past ↦ (let e = get_or_past (map g jobs) k 0 past in omega (arith, e))
-    | inl low ↦ few jobs g b all k low
-  ]
+  | inr past ↦ (let e = get_or_past (map g jobs) k 0 past in omega (arith, e))
+  | inl low ↦ few jobs g b all k low
+]
   where
     few : (jobs : List Job) (g : Job → ℕ) (b : ℕ) → ((j : Job) → g j ≤ b) → (k : ℕ) → k < length (map g jobs) → get_or (map g jobs) k 0 ≤ b
     few jobs g b all k low =
-      let none : Job = record { task = 0; instance = 0; release = 0; deadline = 0; length = 0 } in
-      let e : get_or (map g jobs) k 0 ≡ g (get_or jobs k none) = get_or_default (map g jobs) k 0 (g none) low ∙ get_or-map g jobs k none in
-      let a = all (get_or jobs k none) in
-      omega (arith, e, a)
+        let none : Job = record { task = 0; instance = 0; release = 0; deadline = 0; length = 0 } in
+        let e : get_or (map g jobs) k 0 ≡ g (get_or jobs k none) = get_or_default (map g jobs) k 0 (g none) low ∙ get_or-map g jobs k none in
+        let a = all (get_or jobs k none) in
+        omega (arith, e, a)
 
 -- the fields of a graph keep its invariant
 pub is_job_graph : (net : Net) (lengths tasks list order remaining : List ℕ) (h : ℕ) (jobs : List Job) → length tasks ≤ 64 → HasRemainingFrom net lengths tasks list 0 →
-  remaining ≡ map (λ (j : Job). get_or list j.task 0) jobs → IsJobGraph (record { cycle = h; jobs = jobs; order = order; remaining = remaining })
+    remaining ≡ map (λ (j : Job). get_or list j.task 0) jobs → IsJobGraph (record { cycle = h; jobs = jobs; order = order; remaining = remaining })
 is_job_graph net lengths tasks list order remaining h jobs small come e = record {
   size = ap length e ∙ length-map jobs (λ (j : Job). get_or list j.task 0);
   few = λ k.
-    let bound = mapped_few jobs (λ (j : Job). get_or list j.task 0) (length tasks * 2 ^ 32) (λ j. (let a = come.few j.task in omega (arith, a))) k in
-    let is : get_or remaining k 0 ≡ get_or (map (λ (j : Job). get_or list j.task 0) jobs) k 0 = ap (λ xs. get_or xs k 0) e in
-    omega (arith, bound, is, small);
+      let bound = mapped_few jobs (λ (j : Job). get_or list j.task 0) (length tasks * 2 ^ 32) (λ j. (let a = come.few j.task in omega (arith, a))) k in
+      let is : get_or remaining k 0 ≡ get_or (map (λ (j : Job). get_or list j.task 0) jobs) k 0 = ap (λ xs. get_or xs k 0) e in
+      omega (arith, bound, is, small);
 }
 
 -- the parts are the net's graph
 pub is_graph : (net : Net) → HasEntries net → (lengths tasks list order remaining : List ℕ) (h : ℕ) (jobs : List Job) → IsWithinLimits net h → IsOrder (Feeds net) (length net.tasks) tasks →
-  jobs ≡ jobs_of net h lengths (length net.tasks) → IsOrder (IsProducer net h) (job_count net h) order → HasRemainingFrom net lengths tasks list 0 →
-  remaining ≡ map (λ (j : Job). get_or list j.task 0) jobs → IsGraphOf net lengths (record { cycle = h; jobs = jobs; order = order; remaining = remaining })
+    jobs ≡ jobs_of net h lengths (length net.tasks) → IsOrder (IsProducer net h) (job_count net h) order → HasRemainingFrom net lengths tasks list 0 →
+    remaining ≡ map (λ (j : Job). get_or list j.task 0) jobs → IsGraphOf net lengths (record { cycle = h; jobs = jobs; order = order; remaining = remaining })
 is_graph net entries lengths tasks list order remaining h jobs limits first e named come f =
     let all = jobs_of net h lengths (length net.tasks) in
     let rest = map (λ (j : Job). get_or list j.task 0) all in

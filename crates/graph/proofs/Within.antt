@@ -23,8 +23,8 @@ round_some net is =
 pub cycle_some : (net : Net) → KeepsEntryRules net → (h : ℕ) → IsCycle net h → 0 < h
 cycle_some net rules h is =
     multiple_some (cycle_parts net) h
-      (All-cons (λ x. 1 ≤ x) net.shape.round (map (λ (t : Transaction). t.period) net.transactions) (round_some net rules.shape)
-        (All-map (λ x. 1 ≤ x) (λ (t : Transaction). t.period) net.transactions (λ k d low. (rules.entries.transactions k d low).some_period))) is
+    (All-cons (λ x. 1 ≤ x) net.shape.round (map (λ (t : Transaction). t.period) net.transactions) (round_some net rules.shape)
+    (All-map (λ x. 1 ≤ x) (λ (t : Transaction). t.period) net.transactions (λ k d low. (rules.entries.transactions k d low).some_period))) is
 
 -- no cycle is within the limits where one is passed
 pub not_within : (net : Net) (fault : GraphFault) → KeepsEntryRules net → PassesLimit net fault → (h : ℕ) → IsWithinLimits net h → ⊥
@@ -43,6 +43,6 @@ not_within net Memory rules past h within = past
 
 -- whether a limit is passed says whether a cycle is within all
 pub within_answer : (net : Net) (r : Result ℕ GraphFault) (b : Bool) → KeepsEntryRules net → b ≡ is_ok r →
-  MatchResult r (λ cycle. IsWithinLimits net cycle × (1 ≤ cycle)) (PassesLimit net) → IsTrue b ↔ ((h : ℕ) × IsWithinLimits net h)
+    MatchResult r (λ cycle. IsWithinLimits net cycle × (1 ≤ cycle)) (PassesLimit net) → IsTrue b ↔ ((h : ℕ) × IsWithinLimits net h)
 within_answer net (Ok h) b rules e m = (λ _. (h, m.0), λ _. e)
 within_answer net (Err fault) b rules e m = (λ t. absurd (false≢true (sym e ∙ t)), λ w. absurd (not_within net fault rules m w.0 w.1))

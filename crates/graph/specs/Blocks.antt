@@ -23,4 +23,4 @@ IsNamed from to place instance k m = (k < from) ⊎ (((k < place) × (m ≤ inst
 pub record HasCome (net : Net) (cycle : ℕ) (tasks jobs : List ℕ) (from to place instance : ℕ) : Type 0 where
   pub in_order : IsInOrder (IsProducer net cycle) (job_count net cycle) jobs
   pub named : (k m : ℕ) → k < length tasks → m < instances net cycle (slice_index tasks k) →
-    Contains jobs (job_number net cycle (slice_index tasks k) m) ↔ IsNamed from to place instance k m
+      Contains jobs (job_number net cycle (slice_index tasks k) m) ↔ IsNamed from to place instance k m

@@ -12,7 +12,7 @@ job_of net lengths task instance = record {
   instance = instance;
   release = instance * period_of net task;
   deadline = instance * period_of net task + deadline_of net task;
-  length = slice_index lengths task
+  length = slice_index lengths task;
 }
 
 -- the first n instances of a task
@@ -47,4 +47,4 @@ pub record IsGreatestAfter (net : Net) (cycle : ℕ) (list : List ℕ) (job m : 
 -- each job's remaining ticks are its length and the greatest remaining of its successors
 abbrev pub IsRemaining : Net → (cycle : ℕ) → (jobs : List Job) → (remaining : List ℕ) → Type 0
 IsRemaining net cycle jobs remaining = (job : ℕ) → job < length jobs →
-  (m : ℕ) × IsGreatestAfter net cycle remaining job m × (slice_index remaining job ≡ slice_index (map (λ (j : Job). j.length) jobs) job + m)
+    (m : ℕ) × IsGreatestAfter net cycle remaining job m × (slice_index remaining job ≡ slice_index (map (λ (j : Job). j.length) jobs) job + m)

@@ -51,8 +51,8 @@ Feeds net from to = Any (λ (e : Edge). (e.from_task ≡ from) × (e.to_task ≡
 -- how many edges and sensors feed an in port
 abbrev pub feeds_to : Net → (task port : ℕ) → ℕ
 feeds_to net task port =
-  count_by (λ (e : Edge). (e.to_task == task) && (e.to_port == port)) net.edges
-  + count_by (λ (s : Plug). (s.task == task) && (s.port == port)) net.sensors
+    count_by (λ (e : Edge). (e.to_task == task) && (e.to_port == port)) net.edges
+    + count_by (λ (s : Plug). (s.task == task) && (s.port == port)) net.sensors
 
 -- the round and the periods, of which a cycle is made
 abbrev pub cycle_parts : Net → List ℕ

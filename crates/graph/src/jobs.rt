@@ -42,12 +42,7 @@ fn push_jobs(
 }
 
 /// The jobs of a cycle, by task and then by instance.
-pub fn list_jobs(
-    alloc: Global,
-    net: &Net,
-    cycle: u32,
-    lengths: &[u32],
-) -> Result<Vec<Job>, Memory>
+pub fn list_jobs(alloc: Global, net: &Net, cycle: u32, lengths: &[u32]) -> Result<Vec<Job>, Memory>
     requires counts { HasCounts net.now }
     requires entries { HasEntries net.now }
     requires lengths { length lengths.now ≡ length net.now.tasks }

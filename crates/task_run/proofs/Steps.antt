@@ -18,7 +18,6 @@ use Rattle.task_run.specs.declared.fault.RunFault.{RunFault}
 use Rattle.task_run.specs.declared.fault.RunFault.TheVariants as fault
 
 module _ (t : Tree) (maxt : ℕ) (run : List ℤ → List ℤ → Ran) where
-
   -- what was written, and what is still to be written for the lines that are left
   pub record Underway (base : Option (List ℕ)) (all : Lines) (line seen : ℕ) (state : List ℤ) (left : Lines) (out : Option (List ℕ)) (waiting : List ℕ) : Type 0 where
     pub written : List ℕ

@@ -50,11 +50,7 @@ pub fn stop_broken<O: Sink>(
 }
 
 /// Ends a run at a bad line, by its number from 1.
-pub fn stop_bad<O: Sink>(
-    buffer: &mut LineBuf,
-    out: &mut O,
-    number: u64,
-) -> Result<(), RunFault>
+pub fn stop_bad<O: Sink>(buffer: &mut LineBuf, out: &mut O, number: u64) -> Result<(), RunFault>
     ensures closes { Closes (O.holds out.old) buffer.old [] (O.holds out.new) (O.faults out.old) (O.faults out.new) result (Err (RunFault.BadLine number)) }
     ensures later { O.faults out.old ≤ O.faults out.new }
 {

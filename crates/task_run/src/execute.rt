@@ -30,7 +30,7 @@ pub fn execute<C: Cpu>(
     ensures { MatchOption result
         ((instance_of (plain_task task.now) state.old ins.now ≡ Breaks) × (state.new ≡ state.old))
         (λ cycles. (instance_of (plain_task task.now) state.old ins.now ≡ Gives state.new outs.new)
-            × (cycles ≡ cycles_in (C.execution program.now maxt state.old ins.now))) }
+        × (cycles ≡ cycles_in (C.execution program.now maxt state.old ins.now))) }
 {
     cpu.load(program, state, ins);
     if cpu.advance(program, maxt) != Turn::Halted {

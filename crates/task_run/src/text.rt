@@ -98,7 +98,11 @@ pub fn write_broken<O: Sink>(
 {
     let mut digits = Buffer::new();
     let line = digits.format(line).as_bytes();
-    write_pieces(buffer, out, &[&b"broken "[..], line, &b" "[..], name, &b" 0\n"[..]])
+    write_pieces(
+        buffer,
+        out,
+        &[&b"broken "[..], line, &b" "[..], name, &b" 0\n"[..]],
+    )
 }
 
 /// Writes the last line of a run.
@@ -119,6 +123,14 @@ pub fn write_task<O: Sink>(
     write_pieces(
         buffer,
         out,
-        &[&b"task "[..], name, &b" maxt "[..], maxt, &b" seen "[..], seen, &b"\n"[..]],
+        &[
+            &b"task "[..],
+            name,
+            &b" maxt "[..],
+            maxt,
+            &b" seen "[..],
+            seen,
+            &b"\n"[..],
+        ],
     )
 }

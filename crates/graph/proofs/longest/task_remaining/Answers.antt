@@ -13,4 +13,4 @@ loop-place-preserved c =
     let is : IsGreatestFed c.args.net.now c.loop-place.list.items (get_or c.args.tasks.now (c.loop-place.place - 1) 0) c.greatest_fed-after.result = subst (λ xs. IsGreatestFed c.args.net.now xs (get_or c.args.tasks.now (c.loop-place.place - 1) 0) c.greatest_fed-after.result) c.as_slice.ensures.value c.greatest_fed-after.ensures in
     rw (c.from-in-loop-place.ensures, c.from-in-loop-place-2.ensures, c.from.ensures)
     (remaining_more c.args.net.now c.requires.entries c.args.lengths.now c.args.tasks.now c.loop-place.list.items (c.loop-place.place - 1) c.greatest_fed-after.result c.requires.order low short
-      (subst (λ n. HasRemainingFrom c.args.net.now c.args.lengths.now c.args.tasks.now c.loop-place.list.items n) whole c.loop-place.invariant) is)
+    (subst (λ n. HasRemainingFrom c.args.net.now c.args.lengths.now c.args.tasks.now c.loop-place.list.items n) whole c.loop-place.invariant) is)

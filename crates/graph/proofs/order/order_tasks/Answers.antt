@@ -13,7 +13,7 @@ pub returns-in_default : goal.returns-in_default
 returns-in_default c =
     circle c.args.net.now c.requires.entries c.loop-place.order.items c.loop-place.invariant.in_order (omega (arith, c.loop-place.invariant.size, c.len-count.ensures))
     (λ t low ready. c.in_default.ensures.none t (omega (arith, low, c.len-count.ensures))
-      ((open_ready c.args.net.now c.requires.entries c.requires.counts.tasks c.producers-masks.result c.loop-place.order.items c.loop-place.named c.producers-masks.ensures.masks c.producers-masks.ensures.small (omega (arith, c.loop-place.auto.named-fits)) c.loop-place.invariant.bits t low).1 ready))
+    ((open_ready c.args.net.now c.requires.entries c.requires.counts.tasks c.producers-masks.result c.loop-place.order.items c.loop-place.named c.producers-masks.ensures.masks c.producers-masks.ensures.small (omega (arith, c.loop-place.auto.named-fits)) c.loop-place.invariant.bits t low).1 ready))
 
 pub loop-place-preserved : goal.loop-place-preserved
 loop-place-preserved c =
@@ -21,7 +21,7 @@ loop-place-preserved c =
     let t = c.in-Some.task in
     let xs = c.loop-place.order.items in
     let ready : (k : ℕ) → k < length net.tasks → IsOpen c.producers-masks.result c.loop-place.named k ↔ IsReady (Feeds net) (length net.tasks) xs k =
-      open_ready net c.requires.entries c.requires.counts.tasks c.producers-masks.result xs c.loop-place.named c.producers-masks.ensures.masks c.producers-masks.ensures.small (omega (arith, c.loop-place.auto.named-fits)) c.loop-place.invariant.bits in
+    open_ready net c.requires.entries c.requires.counts.tasks c.producers-masks.result xs c.loop-place.named c.producers-masks.ensures.masks c.producers-masks.ensures.small (omega (arith, c.loop-place.auto.named-fits)) c.loop-place.invariant.bits in
     let low : t < length net.tasks = omega (arith, c.in-Some.ensures.some.0, c.len-count.ensures) in
     let next : IsNext (Feeds net) (length net.tasks) xs t = record {
       ready = (ready t low).0 c.in-Some.ensures.some.1;

@@ -15,11 +15,12 @@ loop-edge-preserved c =
     let none : Edge = record { from_task = 0; from_port = 0; to_task = 0; to_port = 0 } in
     let e = get_or items c.loop-edge.edge-index none in
     let low : c.loop-edge.edge-index < length items = omega arith in
-    let is : IsEdge c.args.net.now e = rw c.as_slice-edge-items.ensures (c.requires.entries.edges c.loop-edge.edge-index none (omega (arith, low, ap length c.as_slice-edge-items.ensures))) in
-    (rw (take_more items c.loop-edge.edge-index none low, c.from-to.ensures)
-      (mask_more (take c.loop-edge.edge-index items) e c.loop-edge.masks c.loop-edge.invariant.1 (omega (arith, is.from_task, c.requires.counts.tasks)) (omega (arith, is.to_task, c.requires.counts.tasks)) c.loop-edge.invariant.0),
-    length-set c.loop-edge.masks _ _ ∙ c.loop-edge.invariant.1,
-    rw c.from-to.ensures (small_more c.loop-edge.masks e.to_task e.from_task (omega (arith, is.to_task, c.requires.counts.tasks, c.loop-edge.invariant.1)) c.loop-edge.invariant.2))
+    let is : IsEdge c.args.net.now e = rw c.as_slice-edge-items.ensures (c.requires.entries.edges c.loop-edge.edge-index none (omega (arith, low, ap length c.as_slice-edge-items.ensures))) in (
+      rw (take_more items c.loop-edge.edge-index none low, c.from-to.ensures)
+          (mask_more (take c.loop-edge.edge-index items) e c.loop-edge.masks c.loop-edge.invariant.1 (omega (arith, is.from_task, c.requires.counts.tasks)) (omega (arith, is.to_task, c.requires.counts.tasks)) c.loop-edge.invariant.0),
+      length-set c.loop-edge.masks _ _ ∙ c.loop-edge.invariant.1,
+      rw c.from-to.ensures (small_more c.loop-edge.masks e.to_task e.from_task (omega (arith, is.to_task, c.requires.counts.tasks, c.loop-edge.invariant.1)) c.loop-edge.invariant.2),
+    )
 
 pub returns-clause-masks : goal.returns-clause-masks
 returns-clause-masks c =

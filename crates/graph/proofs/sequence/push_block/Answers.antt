@@ -12,4 +12,4 @@ pub returns : goal.returns
 returns c =
     let last : c.loop-instance.instance ≡ instances c.args.net.now c.args.cycle (get_or c.args.tasks.now c.args.from 0) = omega arith in
     come_done c.args.net.now c.requires.entries c.args.cycle c.args.tasks.now c.requires.tasks c.loop-instance.order.items c.args.from c.args.to c.requires.block
-      (subst (λ i. HasCome c.args.net.now c.args.cycle c.args.tasks.now c.loop-instance.order.items c.args.from c.args.to c.args.from i) last c.loop-instance.invariant)
+    (subst (λ i. HasCome c.args.net.now c.args.cycle c.args.tasks.now c.loop-instance.order.items c.args.from c.args.to c.args.from i) last c.loop-instance.invariant)

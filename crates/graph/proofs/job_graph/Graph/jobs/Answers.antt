@@ -27,4 +27,4 @@ returns-clause-graph c =
     let come : HasRemainingFrom c.args.net.now c.args.lengths.now c.in-Some.tasks.items c.in_ok-longest.longest.items 0 = rw c.as_slice-2.ensures.value at c.in_ok-longest.ensures in
     let list : c.in_ok-remaining.remaining.items ≡ map (λ (j : Job). get_or c.in_ok-longest.longest.items j.task 0) c.in_ok-jobs.jobs.items = rw (c.as_slice-3.ensures.value, c.as_slice-4.ensures.value) at c.in_ok-remaining.ensures in
     is_graph c.args.net.now c.requires.rules.entry_rules.entries c.args.lengths.now c.in-Some.tasks.items c.in_ok-longest.longest.items c.in_ok-order.order.items c.in_ok-remaining.remaining.items c.in_ok-cycle.cycle c.in_ok-jobs.jobs.items
-      c.in_ok-cycle.ensures.0 order c.in_ok-jobs.ensures c.in_ok-order.ensures come list
+    c.in_ok-cycle.ensures.0 order c.in_ok-jobs.ensures c.in_ok-order.ensures come list
