@@ -1,6 +1,5 @@
 //! A task's run over the lines of an input.
-ghost use Rattle.std.specs.Prelude.{◌≡◌, ◌<◌, ◌≤◌, ◌^◌, ◌+◌, length, IfErr, Err};
-ghost use Rattle.lines.specs.Lines.{lines_in, lines_from};
+ghost use Rattle.std.specs.Prelude.{◌≡◌, ◌<◌, ◌≤◌, ◌^◌, [], length, Err};
 ghost use Rattle.mars_base.specs.Causes.{Rose};
 ghost use Rattle.mc_tree.specs.Instance.{is_in, is_out, is_state, width_of};
 ghost use Rattle.mc_tree.specs.Plain.{plain_task};
@@ -8,6 +7,8 @@ ghost use Rattle.std.specs.Option.{option_map};
 ghost use Rattle.task_run.specs.Follows.{RunsAs};
 ghost use Rattle.task_run.specs.Progress.{RunAnswers};
 ghost use Rattle.lines.specs.Lines.{lines_of};
+ghost use Rattle.lines.specs.Reader.{kept_of, count_of};
+ghost use Rattle.task_run.specs.Text.{first_state};
 
 use crate::closing::{finish, send_before_reading, stop_bad, stop_broken};
 use crate::execute::execute;
@@ -47,30 +48,79 @@ pub fn run_lines<C: Cpu, I: Source, O: Sink>(
     ensures later_out { O.faults out.old ≤ O.faults out.new }
 {
     let cells = task.cells.as_slice();
-    let mut ins = zeros(alloc, in_words(cells))?;
-    let mut outs = zeros(alloc, out_words(cells))?;
-    let mut state = zeros(alloc, state_words(cells))?;
-    let mut reader = LineReader::new(alloc)?;
-    let mut buffer = LineBuf::new(alloc)?;
+    let Ok(mut ins) = zeros(alloc, in_words(cells)) else {
+        return Err(RunFault::Memory);
+    };
+    let Ok(mut outs) = zeros(alloc, out_words(cells)) else {
+        return Err(RunFault::Memory);
+    };
+    let Ok(mut state) = zeros(alloc, state_words(cells)) else {
+        return Err(RunFault::Memory);
+    };
+    let Ok(mut reader) = LineReader::new(alloc) else {
+        return Err(RunFault::Memory);
+    };
+    let Ok(mut buffer) = LineBuf::new(alloc) else {
+        return Err(RunFault::Memory);
+    };
+    run_each(
+        cpu, task, program, maxt, input, out, &mut ins, &mut outs, &mut state, &mut reader, &mut buffer,
+    )
+}
+
+// The same, in the memory that was taken.
+#[allow(clippy::too_many_arguments)]
+fn run_each<C: Cpu, I: Source, O: Sink>(
+    cpu: &mut C,
+    task: &Task,
+    program: &C::Program,
+    maxt: u32,
+    input: &mut I,
+    out: &mut O,
+    ins: &mut [i32],
+    outs: &mut [i32],
+    state: &mut [i32],
+    reader: &mut LineReader,
+    buffer: &mut LineBuf,
+) -> Result<(), RunFault>
+    requires few { width_of is_out (plain_task task.now).cells ≤ 256 }
+    requires small { maxt < 2 ^ 31 }
+    requires follows { RunsAs (plain_task task.now) maxt (C.execution program.now maxt) }
+    requires in_words { C.ins_of program.now ≡ width_of is_in (plain_task task.now).cells }
+    requires out_words { C.outs_of program.now ≡ width_of is_out (plain_task task.now).cells }
+    requires state_words { C.states_of program.now ≡ width_of is_state (plain_task task.now).cells }
+    requires ins { length ins.old ≡ width_of is_in (plain_task task.now).cells }
+    requires outs { length outs.old ≡ width_of is_out (plain_task task.now).cells }
+    requires state { state.old ≡ first_state (plain_task task.now) }
+    requires kept { kept_of reader.old ≡ [] }
+    requires count { count_of reader.old ≡ 0 }
+    requires waiting { buffer.old ≡ [] }
+    ensures answer { RunAnswers (plain_task task.now) maxt (C.execution program.now maxt)
+        (option_map (lines_of (width_of is_in (plain_task task.now).cells)) (I.left input.old)) (O.holds out.old) (O.holds out.new) result }
+    ensures read { result ≡ Err RunFault.Read → Rose (I.faults input.old) (I.faults input.new) }
+    ensures write { result ≡ Err RunFault.Write → Rose (O.faults out.old) (O.faults out.new) }
+    ensures later_in { I.faults input.old ≤ I.faults input.new }
+    ensures later_out { O.faults out.old ≤ O.faults out.new }
+{
     let name = task.name.as_slice();
     let mut line = 0u64;
     let mut seen = 0u32;
     'lines: loop {
-        if let Err(_fault) = send_before_reading(&reader, &mut buffer, out) {
+        if let Err(_fault) = send_before_reading(reader, buffer, out) {
             return Err(RunFault::Write);
         }
-        match reader.next(input, &mut ins) {
+        match reader.next(input, ins) {
             Ok(Next::Line) => {}
-            Ok(Next::End) => return finish(&mut buffer, out, name, maxt, seen),
-            Err(LineFault::Bad(number)) => return stop_bad(&mut buffer, out, number),
+            Ok(Next::End) => return finish(buffer, out, name, maxt, seen),
+            Err(LineFault::Bad(number)) => return stop_bad(buffer, out, number),
             Err(LineFault::Read) => return Err(RunFault::Read),
         }
-        let Some(cycles) = execute(cpu, task, program, maxt, &mut state, &ins, &mut outs) else {
-            return stop_broken(&mut buffer, out, line, name);
+        let Some(cycles) = execute(cpu, task, program, maxt, state, ins, outs) else {
+            return stop_broken(buffer, out, line, name);
         };
         seen = seen.max(cycles);
         line += 1;
-        if let Err(_fault) = write_outs(&mut buffer, out, &outs) {
+        if let Err(_fault) = write_outs(buffer, out, outs) {
             return Err(RunFault::Write);
         }
     }

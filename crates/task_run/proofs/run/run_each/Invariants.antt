@@ -5,18 +5,18 @@ use Rattle.lines.specs.Reader.{count_of, lines_left}
 use Rattle.mc_tree.specs.Instance.{is_in, is_out, is_state, width_of}
 use Rattle.mc_tree.specs.Plain.{plain_task}
 use Rattle.task_run.proofs.Steps.{Going}
-use Rattle.task_run.proofs.run.run_lines.Given as goal
+use Rattle.task_run.proofs.run.run_each.Given as goal
 
 abbrev pub invariant-lines : goal.invariant-lines
 invariant-lines g l =
     let t = plain_task l.task in
     let width = width_of is_in t.cells in
     record {
-      going : Going t l.maxt (g.C.Cpu.execution l.program l.maxt) (g.O.Sink.holds l.fn.out) (option_map (lines_of width) (g.I.Source.left l.fn.input)) l.line l.seen l.state.items
+      going : Going t l.maxt (g.C.Cpu.execution l.program l.maxt) (g.O.Sink.holds l.fn.out) (option_map (lines_of width) (g.I.Source.left l.fn.input)) l.line l.seen l.state
           (lines_left l.reader (g.I.Source.left l.input) width) (g.O.Sink.holds l.out) l.buffer;
-      ins : length l.ins.items ≡ width;
-      outs : length l.outs.items ≡ width_of is_out t.cells;
-      state : length l.state.items ≡ width_of is_state t.cells;
+      ins : length l.ins ≡ width;
+      outs : length l.outs ≡ width_of is_out t.cells;
+      state : length l.state ≡ width_of is_state t.cells;
       counted : l.line ≡ count_of l.reader;
       later_in : g.I.Source.faults l.fn.input ≤ g.I.Source.faults l.input;
       later_out : g.O.Sink.faults l.fn.out ≤ g.O.Sink.faults l.out;
