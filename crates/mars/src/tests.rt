@@ -1,0 +1,100 @@
+//! Worked rows of the command `task`, over the outside in memory.
+use mars_base::{MemShelf, MemSink, MemSource};
+use mars_top::mars;
+use std::test::Fail;
+
+const INC: &[u8] = b"task inc; in a; out y; body { y = a + 1; }\n";
+const MIX: &[u8] = b"task mix; in a; in b; out s; out d; body { s = a * b - 3; d = (a - b) * (a + b); }\n";
+const COMMENT: &[u8] = b"task inc; in a; out y; body { y = a + 1; /* one more */ }\n";
+
+#[test]
+fn rows(rt: HostRuntime) -> Result<(), Fail> {
+    let alloc = rt.alloc();
+    for (first, second, input, status, text, line) in [
+        ("task", "inc.mc", "41\n", 0, "42\ntask inc maxt 7 seen 7\n", ""),
+        ("task", "inc.mc", "2147483647\n", 0, "-2147483648\ntask inc maxt 7 seen 7\n", ""),
+        ("task", "inc.mc", "", 0, "task inc maxt 7 seen 0\n", ""),
+        ("task", "mix.mc", "5 -2\r\n 7\t0", 0, "-13 21\n-3 49\ntask mix maxt 29 seen 29\n", ""),
+        ("task", "inc.mc", "1\n7 x\n2\n", 8, "2\n", "mars: bad input line 2\n"),
+        ("task", "inc.mc", "2147483648\n", 8, "", "mars: bad input line 1\n"),
+        ("task", "comment.mc", "1\n", 3, "", "mars: comment.mc: not built\n"),
+        ("task", "none.mc", "", 6, "", "mars: read fault: none.mc\n"),
+        ("run", "p1.img", "", 2, "", "mars: usage\n"),
+    ] {
+        let mut shelf = MemShelf::new(alloc, Vec::new(alloc));
+        assert!(rt; shelf.put_file("inc.mc", INC).is_ok());
+        assert!(rt; shelf.put_file("mix.mc", MIX).is_ok());
+        assert!(rt; shelf.put_file("comment.mc", COMMENT).is_ok());
+        let mut source = MemSource::new(Vec::from_slice(alloc, input.as_bytes())?, Vec::new(alloc));
+        let mut out = MemSink::new(alloc, 4096, Vec::new(alloc)).map_err(|_| "memory")?;
+        let mut err = MemSink::new(alloc, 4096, Vec::new(alloc)).map_err(|_| "memory")?;
+        let words = vec![in alloc;
+            String::from_str(alloc, first)?,
+            String::from_str(alloc, second)?,
+        ]?;
+        let got = mars(
+            alloc, &words, &mut shelf, &mut source, &mut out, &mut err,
+        );
+        assert_eq!(rt; got, status, "{second} {input}");
+        assert_eq!(rt; out.bytes(), text.as_bytes(), "{second} {input}");
+        assert_eq!(rt; err.bytes(), line.as_bytes(), "{second} {input}");
+    }
+    Ok(())
+}
+
+#[test]
+fn too_long(rt: HostRuntime) -> Result<(), Fail> {
+    let alloc = rt.alloc();
+    for (length, status, line) in [
+        (65_536usize, 3, "mars: big.mc: not built\n"),
+        (65_537, 13, "mars: too long: big.mc\n"),
+    ] {
+        let mut shelf = MemShelf::new(alloc, Vec::new(alloc));
+        let big = vec![in alloc; b' '; length]?;
+        assert!(rt; shelf.put_file("big.mc", &big).is_ok());
+        let mut source = MemSource::new(Vec::new(alloc), Vec::new(alloc));
+        let mut out = MemSink::new(alloc, 64, Vec::new(alloc)).map_err(|_| "memory")?;
+        let mut err = MemSink::new(alloc, 64, Vec::new(alloc)).map_err(|_| "memory")?;
+        let words = vec![in alloc;
+            String::from_str(alloc, "task")?,
+            String::from_str(alloc, "big.mc")?,
+        ]?;
+        let got = mars(
+            alloc, &words, &mut shelf, &mut source, &mut out, &mut err,
+        );
+        assert_eq!(rt; got, status, "{length}");
+        assert_eq!(rt; out.bytes(), b"".as_slice());
+        assert_eq!(rt; err.bytes(), line.as_bytes());
+    }
+    Ok(())
+}
+
+#[test]
+fn faults(rt: HostRuntime) -> Result<(), Fail> {
+    let alloc = rt.alloc();
+    // Which call of the shelf, the input and the output fails; 9 is none of them.
+    for (reads, input, puts, status, text, line) in [
+        (0u64, 9u64, 9u64, 6, "", "mars: read fault: inc.mc\n"),
+        (9, 0, 9, 6, "", "mars: read fault: input\n"),
+        (9, 1, 9, 6, "42\n", "mars: read fault: input\n"),
+        (9, 9, 0, 7, "", "mars: write fault: output\n"),
+        (9, 9, 1, 7, "42\n", "mars: write fault: output\n"),
+    ] {
+        let mut shelf = MemShelf::new(alloc, vec![in alloc; reads]?);
+        assert!(rt; shelf.put_file("inc.mc", INC).is_ok());
+        let mut source = MemSource::new(Vec::from_slice(alloc, b"41\n")?, vec![in alloc; input]?);
+        let mut out = MemSink::new(alloc, 4096, vec![in alloc; puts]?).map_err(|_| "memory")?;
+        let mut err = MemSink::new(alloc, 4096, Vec::new(alloc)).map_err(|_| "memory")?;
+        let words = vec![in alloc;
+            String::from_str(alloc, "task")?,
+            String::from_str(alloc, "inc.mc")?,
+        ]?;
+        let got = mars(
+            alloc, &words, &mut shelf, &mut source, &mut out, &mut err,
+        );
+        assert_eq!(rt; got, status, "{reads} {input} {puts}");
+        assert_eq!(rt; out.bytes(), text.as_bytes());
+        assert_eq!(rt; err.bytes(), line.as_bytes());
+    }
+    Ok(())
+}

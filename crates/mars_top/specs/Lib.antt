@@ -1,0 +1,6 @@
+pub mod Answers
+pub mod Command
+pub mod Reading
+pub mod Source
+pub mod Status
+pub mod Verdict
