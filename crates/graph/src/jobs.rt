@@ -42,7 +42,12 @@ fn push_jobs(
 }
 
 /// The jobs of a cycle, by task and then by instance.
-pub fn list_jobs(alloc: Global, net: &Net, cycle: u32, lengths: &[u32]) -> Result<Vec<Job>, Memory>
+pub(crate) fn list_jobs(
+    alloc: Global,
+    net: &Net,
+    cycle: u32,
+    lengths: &[u32],
+) -> Result<Vec<Job>, Memory>
     requires counts { HasCounts net.now }
     requires entries { HasEntries net.now }
     requires lengths { length lengths.now ≡ length net.now.tasks }
@@ -57,7 +62,7 @@ pub fn list_jobs(alloc: Global, net: &Net, cycle: u32, lengths: &[u32]) -> Resul
 }
 
 /// The numbers of the tasks, for each of their jobs.
-pub fn job_remaining(alloc: Global, jobs: &[Job], tasks: &[u64]) -> Result<Vec<u64>, Memory>
+pub(crate) fn job_remaining(alloc: Global, jobs: &[Job], tasks: &[u64]) -> Result<Vec<u64>, Memory>
     requires { All (λ (j : Job). j.task < length tasks.now) jobs.now }
     ensures { IfOk result (λ list. list.items ≡ map (λ (j : Job). slice_index tasks.now j.task) jobs.now) }
 {

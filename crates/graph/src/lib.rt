@@ -3,17 +3,20 @@
 
 pub mod job;
 pub mod job_graph;
-pub mod jobs;
-pub mod limits;
-pub mod longest;
-pub mod names;
+mod jobs;
+mod limits;
+mod longest;
+mod names;
 pub mod net;
-pub mod order;
-pub mod rules;
-pub mod sequence;
+mod order;
+mod rules;
+mod sequence;
 pub mod soundness;
 
 pub use job::{GraphFault, Job};
 pub use job_graph::Graph;
 pub use net::{Edge, Net, NetTask, Plug, Transaction};
 pub use soundness::sound;
+
+#[cfg(test)]
+mod tests;

@@ -30,7 +30,7 @@ fn greatest_fed(net: &Net, masks: &[u64; 64], list: &[u64], task: u8) -> u64
 }
 
 /// For each task its length and the greatest of these numbers of the tasks that it feeds.
-pub fn task_remaining(
+pub(crate) fn task_remaining(
     alloc: Global,
     net: &Net,
     tasks: &[u8],

@@ -5,7 +5,7 @@ ghost use Rattle.graph.specs.Name.{IsNameStart, IsNameByte, IsName, Differ, AreN
 use crate::net::{NetTask, Plug, Transaction};
 
 /// An entry of a section.
-pub trait Named {
+pub(crate) trait Named {
     /// Its name's bytes.
     ghost name_of: { Self → List ℕ };
 
@@ -82,7 +82,7 @@ fn differ<T: Named>(entries: &[T]) -> bool
 }
 
 /// Whether each entry's name has its form and no two are the same.
-pub fn are_names<T: Named>(entries: &[T]) -> bool
+pub(crate) fn are_names<T: Named>(entries: &[T]) -> bool
     ensures { IsTrue result ↔ AreNames T.name_of entries.now }
 {
     all_names(entries) && differ(entries)

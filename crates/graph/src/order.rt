@@ -11,7 +11,7 @@ use mars_base::Memory;
 use std::alloc::Global;
 
 /// For each task the tasks that feed it, as a mask: bit n stands for task n.
-pub fn producers(net: &Net) -> [u64; 64]
+pub(crate) fn producers(net: &Net) -> [u64; 64]
     requires counts { HasCounts net.now }
     requires entries { HasEntries net.now }
     ensures masks { AreMasks net.now.edges result }
@@ -26,7 +26,7 @@ pub fn producers(net: &Net) -> [u64; 64]
 }
 
 /// Whether a mask has the task.
-pub fn has_task(mask: u64, task: u8) -> bool
+pub(crate) fn has_task(mask: u64, task: u8) -> bool
     requires { task < 64 }
     ensures { IsTrue result ↔ (bit_at mask task ≡ 1) }
 {
@@ -58,7 +58,7 @@ fn first_open(masks: &[u64; 64], named: u64, count: u8) -> Option<u8>
 
 /// The tasks in order: each place has the first task whose producers all stand before it. None exactly
 /// where edges go in a circle.
-pub fn order_tasks(alloc: Global, net: &Net) -> Result<Option<Vec<u8>>, Memory>
+pub(crate) fn order_tasks(alloc: Global, net: &Net) -> Result<Option<Vec<u8>>, Memory>
     requires counts { HasCounts net.now }
     requires entries { HasEntries net.now }
     ensures { IfOk result (λ order. MatchOption order (HasNoCircle net.now → ⊥) (λ tasks. IsOrder (Feeds net.now) (length net.now.tasks) tasks.items)) }

@@ -10,7 +10,7 @@ use crate::net::{Edge, Net, NetTask, Plug, Transaction};
 use mars_base::{ClusterShape, least_round};
 
 /// Whether the cluster's numbers are in their limits and all slots fit in a round.
-pub fn is_shape(shape: &ClusterShape) -> bool
+pub(crate) fn is_shape(shape: &ClusterShape) -> bool
     ensures { IsTrue result ↔ IsShape shape.now }
 {
     1 <= shape.units
@@ -26,7 +26,7 @@ pub fn is_shape(shape: &ClusterShape) -> bool
 }
 
 /// Whether no section has too many entries, and there are tasks and transactions.
-pub fn has_counts(net: &Net) -> bool
+pub(crate) fn has_counts(net: &Net) -> bool
     ensures { IsTrue result ↔ HasCounts net.now }
 {
     1 <= net.tasks.len()
@@ -38,7 +38,7 @@ pub fn has_counts(net: &Net) -> bool
         && net.actuators.len() <= 1024
 }
 
-pub fn transaction_of(net: &Net, task: u8) -> u8
+pub(crate) fn transaction_of(net: &Net, task: u8) -> u8
     ensures { result ≡ transaction_of net.now task }
 {
     match net.tasks.get(usize::from(task)) {
@@ -47,7 +47,7 @@ pub fn transaction_of(net: &Net, task: u8) -> u8
     }
 }
 
-pub fn ins_of(net: &Net, task: u8) -> &[u8]
+pub(crate) fn ins_of(net: &Net, task: u8) -> &[u8]
     ensures { result.now ≡ ins_of net.now task }
 {
     match net.tasks.get(usize::from(task)) {
@@ -179,7 +179,7 @@ fn are_actuators(net: &Net) -> bool
 }
 
 /// Whether each entry by itself is in order, and each transaction has a task.
-pub fn has_entries(net: &Net) -> bool
+pub(crate) fn has_entries(net: &Net) -> bool
     requires { IsShape net.now.shape }
     ensures { IsTrue result ↔ HasEntries net.now }
 {
@@ -226,7 +226,7 @@ fn is_task_fed(net: &Net, task: u8) -> bool
 }
 
 /// Whether each in port is fed by exactly one edge or sensor.
-pub fn is_fed_once(net: &Net) -> bool
+pub(crate) fn is_fed_once(net: &Net) -> bool
     requires counts { HasCounts net.now }
     requires entries { HasEntries net.now }
     ensures { IsTrue result ↔ IsFedOnce net.now }
@@ -241,7 +241,7 @@ pub fn is_fed_once(net: &Net) -> bool
 }
 
 /// Whether the names in each section have their form and differ.
-pub fn has_names(net: &Net) -> bool
+pub(crate) fn has_names(net: &Net) -> bool
     ensures { IsTrue result ↔ HasNames net.now }
 {
     are_names(net.tasks.as_slice())

@@ -107,7 +107,12 @@ fn push_block(
 
 /// The numbers of the jobs in order. The order of the tasks falls into blocks, each up to the next task
 /// with a greater number; the jobs of a block stand instance by instance.
-pub fn order_jobs(alloc: Global, net: &Net, cycle: u32, tasks: &[u8]) -> Result<Vec<u16>, Memory>
+pub(crate) fn order_jobs(
+    alloc: Global,
+    net: &Net,
+    cycle: u32,
+    tasks: &[u8],
+) -> Result<Vec<u16>, Memory>
     requires counts { HasCounts net.now }
     requires entries { HasEntries net.now }
     requires jobs { job_count net.now cycle ≤ 512 }

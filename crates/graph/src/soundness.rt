@@ -1,7 +1,7 @@
 //! Whether a net is sound.
 ghost use Rattle.std.specs.Prelude.{◌↔◌, ℕ, IsTrue, IfOk};
 ghost use Rattle.graph.specs.Cycle.{IsWithinLimits};
-ghost use Rattle.graph.specs.Sound.{IsSound, KeepsEntryRules};
+ghost use Rattle.graph.specs.Sound.{IsSound, KeepsEntryRules, KeepsRules};
 
 use crate::limits::cycle_within;
 use crate::net::Net;
@@ -26,6 +26,19 @@ fn keeps_entry_rules(net: &Net) -> bool
     is_fed_once(net) && has_names(net)
 }
 
+/// Whether the net keeps all rules, but maybe not the limits of a cycle.
+pub(crate) fn keeps_rules(alloc: Global, net: &Net) -> Result<bool, Memory>
+    ensures { IfOk result (λ answer. IsTrue answer ↔ KeepsRules net.now) }
+{
+    if !keeps_entry_rules(net) {
+        return Ok(false);
+    }
+    let Some(_order) = order_tasks(alloc, net)? else {
+        return Ok(false);
+    };
+    Ok(true)
+}
+
 /// Whether a cycle of the net is within the limits.
 fn is_within_limits(net: &Net) -> bool
     requires { KeepsEntryRules net.now }
@@ -38,11 +51,8 @@ fn is_within_limits(net: &Net) -> bool
 pub fn sound(alloc: Global, net: &Net) -> Result<bool, Memory>
     ensures { IfOk result (λ answer. IsTrue answer ↔ IsSound net.now) }
 {
-    if !keeps_entry_rules(net) {
+    if !keeps_rules(alloc, net)? {
         return Ok(false);
     }
-    let Some(_order) = order_tasks(alloc, net)? else {
-        return Ok(false);
-    };
     Ok(is_within_limits(net))
 }

@@ -25,8 +25,6 @@ fn main(rt: HostRuntime) -> ExitCode {
     let mut input = StdSource::new(rt.reader());
     let mut out = StdSink::new(io::writer(&rt));
     let mut err = StdSink::new(rt.stderr());
-    let status = mars(
-        alloc, &words, &mut shelf, &mut input, &mut out, &mut err,
-    );
+    let status = mars(alloc, &words, &mut shelf, &mut input, &mut out, &mut err);
     ExitCode::from(status)
 }

@@ -4,20 +4,65 @@ use mars_top::mars;
 use std::test::Fail;
 
 const INC: &[u8] = b"task inc; in a; out y; body { y = a + 1; }\n";
-const MIX: &[u8] = b"task mix; in a; in b; out s; out d; body { s = a * b - 3; d = (a - b) * (a + b); }\n";
+
+const MIX: &[u8] =
+    b"task mix; in a; in b; out s; out d; body { s = a * b - 3; d = (a - b) * (a + b); }\n";
+
 const COMMENT: &[u8] = b"task inc; in a; out y; body { y = a + 1; /* one more */ }\n";
 
 #[test]
 fn rows(rt: HostRuntime) -> Result<(), Fail> {
     let alloc = rt.alloc();
     for (first, second, input, status, text, line) in [
-        ("task", "inc.mc", "41\n", 0, "42\ntask inc maxt 7 seen 7\n", ""),
-        ("task", "inc.mc", "2147483647\n", 0, "-2147483648\ntask inc maxt 7 seen 7\n", ""),
+        (
+            "task",
+            "inc.mc",
+            "41\n",
+            0,
+            "42\ntask inc maxt 7 seen 7\n",
+            "",
+        ),
+        (
+            "task",
+            "inc.mc",
+            "2147483647\n",
+            0,
+            "-2147483648\ntask inc maxt 7 seen 7\n",
+            "",
+        ),
         ("task", "inc.mc", "", 0, "task inc maxt 7 seen 0\n", ""),
-        ("task", "mix.mc", "5 -2\r\n 7\t0", 0, "-13 21\n-3 49\ntask mix maxt 29 seen 29\n", ""),
-        ("task", "inc.mc", "1\n7 x\n2\n", 8, "2\n", "mars: bad input line 2\n"),
-        ("task", "inc.mc", "2147483648\n", 8, "", "mars: bad input line 1\n"),
-        ("task", "comment.mc", "1\n", 3, "", "mars: comment.mc: not built\n"),
+        (
+            "task",
+            "mix.mc",
+            "5 -2\r\n 7\t0",
+            0,
+            "-13 21\n-3 49\ntask mix maxt 29 seen 29\n",
+            "",
+        ),
+        (
+            "task",
+            "inc.mc",
+            "1\n7 x\n2\n",
+            8,
+            "2\n",
+            "mars: bad input line 2\n",
+        ),
+        (
+            "task",
+            "inc.mc",
+            "2147483648\n",
+            8,
+            "",
+            "mars: bad input line 1\n",
+        ),
+        (
+            "task",
+            "comment.mc",
+            "1\n",
+            3,
+            "",
+            "mars: comment.mc: not built\n",
+        ),
         ("task", "none.mc", "", 6, "", "mars: read fault: none.mc\n"),
         ("run", "p1.img", "", 2, "", "mars: usage\n"),
     ] {
@@ -32,9 +77,7 @@ fn rows(rt: HostRuntime) -> Result<(), Fail> {
             String::from_str(alloc, first)?,
             String::from_str(alloc, second)?,
         ]?;
-        let got = mars(
-            alloc, &words, &mut shelf, &mut source, &mut out, &mut err,
-        );
+        let got = mars(alloc, &words, &mut shelf, &mut source, &mut out, &mut err);
         assert_eq!(rt; got, status, "{second} {input}");
         assert_eq!(rt; out.bytes(), text.as_bytes(), "{second} {input}");
         assert_eq!(rt; err.bytes(), line.as_bytes(), "{second} {input}");
@@ -59,9 +102,7 @@ fn too_long(rt: HostRuntime) -> Result<(), Fail> {
             String::from_str(alloc, "task")?,
             String::from_str(alloc, "big.mc")?,
         ]?;
-        let got = mars(
-            alloc, &words, &mut shelf, &mut source, &mut out, &mut err,
-        );
+        let got = mars(alloc, &words, &mut shelf, &mut source, &mut out, &mut err);
         assert_eq!(rt; got, status, "{length}");
         assert_eq!(rt; out.bytes(), b"".as_slice());
         assert_eq!(rt; err.bytes(), line.as_bytes());
@@ -89,9 +130,7 @@ fn faults(rt: HostRuntime) -> Result<(), Fail> {
             String::from_str(alloc, "task")?,
             String::from_str(alloc, "inc.mc")?,
         ]?;
-        let got = mars(
-            alloc, &words, &mut shelf, &mut source, &mut out, &mut err,
-        );
+        let got = mars(alloc, &words, &mut shelf, &mut source, &mut out, &mut err);
         assert_eq!(rt; got, status, "{reads} {input} {puts}");
         assert_eq!(rt; out.bytes(), text.as_bytes());
         assert_eq!(rt; err.bytes(), line.as_bytes());

@@ -17,11 +17,7 @@ use thin_reader::{ThinFault, is_bare, read_thin};
 const LONGEST: u64 = 65_536;
 
 /// The bytes of a source's file.
-pub fn read_source<H: Shelf>(
-    alloc: Global,
-    shelf: &mut H,
-    file: &str,
-) -> Result<Vec<u8>, Refusal>
+pub fn read_source<H: Shelf>(alloc: Global, shelf: &mut H, file: &str) -> Result<Vec<u8>, Refusal>
     ensures short { IfOk result (λ bytes. vec_len bytes ≤ 65536) }
     ensures file { IfOk result (λ bytes. FileIs (H.holds shelf.old) file.now bytes.items) }
     ensures refused { IfErr result (λ refused. NotRead (H.holds shelf.old) file.now (H.failed_reads shelf.old) (H.failed_reads shelf.new) refused) }

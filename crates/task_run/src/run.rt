@@ -64,7 +64,17 @@ pub fn run_lines<C: Cpu, I: Source, O: Sink>(
         return Err(RunFault::Memory);
     };
     run_each(
-        cpu, task, program, maxt, input, out, &mut ins, &mut outs, &mut state, &mut reader, &mut buffer,
+        cpu,
+        task,
+        program,
+        maxt,
+        input,
+        out,
+        &mut ins,
+        &mut outs,
+        &mut state,
+        &mut reader,
+        &mut buffer,
     )
 }
 

@@ -1,13 +1,8 @@
 use Rattle.std.proofs.Common.{◌≡◌, refl}
-use Rattle.graph.specs.Sound.{KeepsEntryRules}
-use Rattle.graph.proofs.Circles.{ranked}
+use Rattle.graph.specs.Sound.{KeepsRules}
 use Rattle.graph.proofs.soundness.sound.Goals as goal
 
 pub returns : goal.returns
 returns c =
-    let rules : KeepsEntryRules c.args.net.now = c.if-not-keeps_entry_rules.ensures.0 refl in
-    let order = rw c.in-Some.is at c.in_ok-_order.ensures in (
-      λ t. (let w = c.is_within_limits.ensures.0 t in
-          record { rules = record { entry_rules = rules; no_circle = ranked c.args.net.now rules.entries c.in-Some._order.items order }; cycle = w.0; limits = w.1 }),
-      λ s. c.is_within_limits.ensures.1 (s.cycle, s.limits),
-    )
+    let rules : KeepsRules c.args.net.now = (c.in_ok-keeps_rules.ensures {u = tt}).0 c.if-not-branch.false in
+    (λ t. (let w = c.is_within_limits.ensures.0 t in record { rules = rules; cycle = w.0; limits = w.1 }), λ s. c.is_within_limits.ensures.1 (s.cycle, s.limits))
