@@ -1,5 +1,8 @@
 //! Worked rows of the command `task`, over the outside in memory.
-use mars_base::{MemShelf, MemSink, MemSource};
+use mars_base::{
+    BinOp, MemShelf, MemSink, MemSource, Source, Steps, Text, UnOp, Words, binary, least_round,
+    unary,
+};
 use mars_top::mars;
 use std::test::Fail;
 
@@ -135,5 +138,77 @@ fn faults(rt: HostRuntime) -> Result<(), Fail> {
         assert_eq!(rt; out.bytes(), text.as_bytes());
         assert_eq!(rt; err.bytes(), line.as_bytes());
     }
+    Ok(())
+}
+
+#[test]
+fn operators(rt: HostRuntime) -> Result<(), Fail> {
+    for (op, left, right, word) in [
+        (BinOp::Or, 0, -4, Some(1)),
+        (BinOp::And, 2, 4, Some(1)),
+        (BinOp::BitOr, 12, 10, Some(14)),
+        (BinOp::BitXor, 12, 10, Some(6)),
+        (BinOp::BitAnd, 12, 10, Some(8)),
+        (BinOp::Eq, 3, 3, Some(1)),
+        (BinOp::Ne, 3, 3, Some(0)),
+        (BinOp::Lt, -1, 0, Some(1)),
+        (BinOp::Le, 1, 0, Some(0)),
+        (BinOp::Gt, 1, 0, Some(1)),
+        (BinOp::Ge, -1, 0, Some(0)),
+        (BinOp::Shl, 1, 33, Some(2)),
+        (BinOp::Shr, -5, 1, Some(-3)),
+        (BinOp::Add, i32::MAX, 1, Some(i32::MIN)),
+        (BinOp::Sub, i32::MIN, 1, Some(i32::MAX)),
+        (BinOp::Mul, 65_536, 32_768, Some(i32::MIN)),
+        (BinOp::Div, -7, 2, Some(-3)),
+        (BinOp::Div, i32::MIN, -1, Some(i32::MIN)),
+        (BinOp::Div, 7, 0, None),
+        (BinOp::Rem, -7, 2, Some(-1)),
+        (BinOp::Rem, i32::MIN, -1, Some(0)),
+        (BinOp::Rem, 7, 0, None),
+    ] {
+        assert_eq!(rt; binary(op, left, right), word, "{op:?} {left} {right}");
+    }
+    for (op, right, word) in [
+        (UnOp::Neg, i32::MIN, i32::MIN),
+        (UnOp::Not, 0, 1),
+        (UnOp::Not, 7, 0),
+        (UnOp::Inv, 5, -6),
+    ] {
+        assert_eq!(rt; unary(op, right), word, "{op:?} {right}");
+    }
+    // Three units, slots of four words and two idle ticks: six slots of six ticks.
+    assert_eq!(rt; least_round(3, 4, 2), 36);
+    Ok(())
+}
+
+#[test]
+fn ground(rt: HostRuntime) -> Result<(), Fail> {
+    let alloc = rt.alloc();
+    let text = Text::from_slice(alloc, b"inc").map_err(|_| "memory")?;
+    assert_eq!(rt; text.as_slice(), b"inc".as_slice());
+    assert_eq!(rt; text.len(), 3);
+    assert!(rt; Text::from_vec(Vec::new(alloc)).is_empty());
+    let words = Words::from_slice(alloc, &[4, -7]).map_err(|_| "memory")?;
+    assert_eq!(rt; words.as_slice(), [4, -7].as_slice());
+    assert!(rt; Words::from_vec(Vec::new(alloc)).as_slice().is_empty());
+    let mut steps = Steps::new();
+    steps.tick();
+    steps.tick();
+    assert_eq!(rt; steps.taken(), 2);
+    let mut source = MemSource::new(Vec::from_slice(alloc, b"41\n")?, Vec::new(alloc));
+    let mut room = [0u8; 2];
+    assert!(rt; matches!(source.read(&mut room), Ok(2)));
+    assert_eq!(rt; room.as_slice(), b"41".as_slice());
+    assert_eq!(rt; source.rest(), b"\n".as_slice());
+    let mut shelf = MemShelf::new(alloc, Vec::new(alloc));
+    assert!(rt; shelf.put_file("a", b"1").is_ok());
+    assert!(rt; shelf.put_file("a", b"2").is_ok());
+    assert!(rt;
+        shelf
+            .file("a")
+            .is_some_and(|bytes| bytes == b"2".as_slice())
+    );
+    assert!(rt; shelf.file("b").is_none());
     Ok(())
 }
