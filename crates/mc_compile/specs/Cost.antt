@@ -1,4 +1,5 @@
 -- What straight code costs: an expression's code has no jump, so each run through it costs the same.
+-- This project's own.
 use Rattle.std.specs.Prelude.{ℕ, ◌+◌, List, [], ◌∷◌}
 use Rattle.mars_base.specs.declared.word.BinOp.{BinOp}
 use Rattle.mc_tree.specs.Tree.{Ex, Num, Var, Elem, Un, Bin}

@@ -1,4 +1,5 @@
 -- What every checked task keeps. A folded task keeps it too, so a number may be any word here.
+-- This project's own.
 use Rattle.std.specs.Prelude.{◌≡◌, ◌≢◌, ℕ, ◌+◌, ◌≤◌, List, [], ◌∷◌, ◌++◌, map, length, Bool, true, false, if◌then◌else◌}
 use Rattle.std.specs.List.{All, AllPairs}
 use Rattle.mars_base.specs.declared.word.Role.{Role}

@@ -2,6 +2,7 @@
 -- and sequence in text order, a sequence before its loops. `sc` is one more than the counter of the innermost scope
 -- around the part, or 0 where a mark can't stand, and `kb` is that scope's bound. The functions with numbers below
 -- `cur` may be called; `params` are the places of a function's parameters.
+-- This project's own.
 use Rattle.std.specs.Prelude.{◌≡◌, ℕ, suc, ◌<◌, List, [], ◌∷◌, length}
 use Rattle.mc_tree.specs.Tree.{St, Assign, AssignAt, Invoke, When, Choice, Loop, Scoped, Count, Series, Bl, Nil, Then, Ls, NoLoop, OneLoop, Fn}
 

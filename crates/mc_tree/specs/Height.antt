@@ -1,4 +1,5 @@
 -- How many operand words a part needs: one for its result, and one for each left word that waits for a right one.
+-- This project's own, for operands from left to right on a stack.
 use Rattle.std.specs.Prelude.{ℕ, ◌+◌, max, List, [], ◌∷◌}
 use Rattle.mc_tree.specs.Tree.{Ex, Num, Var, Elem, Un, Bin}
 

@@ -1,4 +1,5 @@
 -- One instance of a task, from its state and its in words.
+-- This project's own.
 use Rattle.std.specs.Prelude.{ℕ, Bool, true, false, List, [], ◌∷◌, ◌++◌, replicate, reverse, take, drop, ℤ, pos, ◌+◌, if◌then◌else◌}
 use Rattle.mars_base.specs.declared.word.Role.{Role}
 use Rattle.mars_base.specs.declared.word.Role.TheVariants as role

@@ -1,5 +1,6 @@
 -- What each part of a checked tree keeps by itself: it names visible cells as their widths allow, its numbers are
 -- words, its bounds are in their ranges, and each statement needs at most 64 operand words.
+-- This project's own.
 use Rattle.std.specs.Prelude.{◌≡◌, ℕ, ◌+◌, ◌≤◌, max, List, FitsSigned}
 use Rattle.std.specs.Int.{w32}
 use Rattle.std.specs.List.{All, Contains}

@@ -1,4 +1,5 @@
 -- The tokens of a text, and the offset where it has no more. The longest lexeme is taken each time.
+-- The longest one as in ISO C (ISO/IEC 9899, 6.4).
 use Rattle.std.specs.Prelude.{◌≡◌, ℕ, ◌+◌, ◌<◌, ◌≤◌, List, [], ◌∷◌, length, take, drop, slice_range, Some, None, IsTrue}
 use Rattle.std.specs.List.{list_all}
 use Rattle.mars_base.specs.declared.text.Span.{Span}

@@ -1,4 +1,5 @@
 -- The checked tree as plain data. A cell is its place and, where it is indexed, its width.
+-- This project's own.
 use Rattle.std.specs.Prelude.{ℕ, ℤ, List}
 use Rattle.mars_base.specs.declared.word.BinOp.{BinOp}
 use Rattle.mars_base.specs.declared.word.UnOp.{UnOp}

@@ -1,4 +1,5 @@
 -- Tasks that are worked by hand, each with its text.
+-- This project's own.
 use Rattle.std.specs.Prelude.{ℕ, pos, List, [], ◌∷◌, codes}
 use Rattle.mars_base.specs.declared.word.Role.{Role}
 use Rattle.mars_base.specs.declared.word.Role.TheVariants.{In, Out, State, Local}
