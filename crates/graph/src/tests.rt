@@ -80,6 +80,20 @@ fn back(alloc: Global) -> Result<Net, Memory> {
     Ok(net)
 }
 
+/// A task `a` of unit 0 that feeds a task `b` of unit 1 over the bus.
+fn two(alloc: Global) -> Result<Net, Memory> {
+    let mut net = empty(alloc, 12, 24, 24)?;
+    net.shape = shape(2, 12);
+    net.tasks.push(task(alloc, "a", 0, 1)?)?;
+    let mut other = task(alloc, "b", 0, 1)?;
+    other.units = 2;
+    net.tasks.push(other)?;
+    net.edges.push(edge(0, 1))?;
+    net.sensors.push(plug(alloc, "s", 0)?)?;
+    net.actuators.push(plug(alloc, "v", 1)?)?;
+    Ok(net)
+}
+
 /// 64 tasks, of which each but the first feeds the one before it.
 fn chain(alloc: Global) -> Result<Net, Memory> {
     let mut net = empty(alloc, 6, 6, 6)?;
@@ -196,6 +210,7 @@ fn limits_come_in_order(rt: HostRuntime) -> Result<(), Fail> {
 fn soundness_is_exact(rt: HostRuntime) -> Result<(), Fail> {
     let alloc = rt.alloc();
     assert!(rt; sound(alloc, &one(alloc, 6, 6, 6, 1)?)?);
+    assert!(rt; sound(alloc, &two(alloc)?)?);
     assert!(rt; sound(alloc, &back(alloc)?)?);
     assert!(rt; sound(alloc, &chain(alloc)?)?);
     assert!(rt;
@@ -210,6 +225,9 @@ fn soundness_is_exact(rt: HostRuntime) -> Result<(), Fail> {
     let mut twice = back(alloc)?;
     twice.sensors.push(plug(alloc, "r", 0)?)?;
     assert!(rt; !sound(alloc, &twice)?, "a port fed twice");
+    let mut never = two(alloc)?;
+    never.edges = Items::new(alloc);
+    assert!(rt; !sound(alloc, &never)?, "a port that nothing feeds");
     Ok(())
 }
 
