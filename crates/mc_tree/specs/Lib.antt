@@ -5,6 +5,8 @@ pub mod Instance
 pub mod Lexeme
 pub mod Meaning
 pub mod Plain
+pub mod Raw
+pub mod RawPlain
 pub mod Sound
 pub mod Tokens
 pub mod Tree

@@ -57,7 +57,7 @@ pub struct RawBody {
     pub body: Items<RawStmt>,
 }
 
-/// A statement as it is written.
+/// A statement as it is written. Its span goes from its first token to its last `;` or `}`.
 #[derive(Debug, Drop)]
 pub enum RawStmt {
     Set {
