@@ -1,4 +1,5 @@
 pub mod Checked
+pub mod CheckedTask
 pub mod Counters
 pub mod Height
 pub mod Instance
@@ -7,6 +8,7 @@ pub mod Meaning
 pub mod Plain
 pub mod Raw
 pub mod RawPlain
+pub mod Size
 pub mod Sound
 pub mod Tokens
 pub mod Tree
