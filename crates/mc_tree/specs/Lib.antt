@@ -1,10 +1,13 @@
 pub mod Checked
 pub mod CheckedTask
 pub mod Counters
+pub mod Expression
+pub mod Grammar
 pub mod Height
 pub mod Instance
 pub mod Lexeme
 pub mod Meaning
+pub mod Operators
 pub mod Plain
 pub mod Raw
 pub mod RawPlain
