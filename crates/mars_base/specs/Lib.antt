@@ -2,6 +2,7 @@ pub mod Causes
 pub mod MemShelf
 pub mod MemSink
 pub mod MemSource
+pub mod Name
 pub mod Outside
 pub mod Shape
 pub mod Store

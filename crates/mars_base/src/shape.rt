@@ -1,6 +1,6 @@
 //! The shape of a cluster and of its bus, and ports.
-ghost use Rattle.std.specs.Prelude.{◌≡◌, ◌+◌, ◌*◌, ◌≤◌};
-ghost use Rattle.mars_base.specs.Shape.{least_round_of};
+ghost use Rattle.std.specs.Prelude.{◌≡◌, ◌+◌, ◌*◌, ◌≤◌, ◌↔◌, IsTrue};
+ghost use Rattle.mars_base.specs.Shape.{least_round_of, IsShape};
 
 use crate::Text;
 
@@ -45,4 +45,20 @@ pub fn least_round(units: u8, slot_words: u8, precision: u8) -> u32
     ensures { result ≡ least_round_of units slot_words precision }
 {
     2 * u32::from(units) * (u32::from(slot_words) + u32::from(precision))
+}
+
+/// Whether a cluster's numbers are in their limits and the slots of all its units fit in a round.
+pub fn is_shape(shape: &ClusterShape) -> bool
+    ensures { IsTrue result ↔ IsShape shape.now }
+{
+    1 <= shape.units
+        && shape.units <= 8
+        && 2 <= shape.slot_words
+        && shape.slot_words <= 64
+        && 1 <= shape.precision
+        && shape.precision <= 8
+        && 1 <= shape.cycles_per_tick
+        && shape.cycles_per_tick <= 10_000
+        && shape.round <= 65_536
+        && least_round(shape.units, shape.slot_words, shape.precision) <= shape.round
 }

@@ -19,13 +19,15 @@ pub struct MemShelf {
 }
 
 impl MemShelf {
-    ghost use Rattle.mars_base.specs.MemShelf.{files_of, failing_of, calls_of, fails_next};
+    ghost use Rattle.mars_base.specs.MemShelf.{files_of, failed_reads_of, failed_writes_of, failing_of, calls_of, fails_next};
 
-    /// No files yet.
+    /// No files yet, and no fault.
     pub fn new(alloc: Global, failing: Vec<u64>) -> MemShelf
         ensures files { files_of result ≡ [] }
         ensures failing { failing_of result ≡ failing.items }
         ensures calls { calls_of result ≡ 0 }
+        ensures reads { failed_reads_of result ≡ 0 }
+        ensures writes { failed_writes_of result ≡ 0 }
     {
         MemShelf {
             files: Vec::new(alloc),
@@ -42,6 +44,8 @@ impl MemShelf {
         ensures err { OnErr result (files_of self.new ≡ files_of self.old) }
         ensures failing { failing_of self.new ≡ failing_of self.old }
         ensures calls { calls_of self.new ≡ calls_of self.old }
+        ensures reads { failed_reads_of self.new ≡ failed_reads_of self.old }
+        ensures writes { failed_writes_of self.new ≡ failed_writes_of self.old }
     {
         let alloc = *self.files.allocator();
         replace(alloc, &mut self.files, name.as_bytes(), bytes)

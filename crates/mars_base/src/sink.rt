@@ -20,7 +20,7 @@ pub struct MemSink {
 }
 
 impl MemSink {
-    ghost use Rattle.mars_base.specs.MemSink.{bytes_of, room_of, failing_of, calls_of};
+    ghost use Rattle.mars_base.specs.MemSink.{bytes_of, room_of, faults_of, failing_of, calls_of};
 
     /// An empty output that has its room already.
     pub fn new(alloc: Global, room: usize, failing: Vec<u64>) -> Result<MemSink, Memory>
@@ -28,6 +28,7 @@ impl MemSink {
         ensures room { IfOk result (λ m. room_of m ≡ room) }
         ensures failing { IfOk result (λ m. failing_of m ≡ failing.items) }
         ensures calls { IfOk result (λ m. calls_of m ≡ 0) }
+        ensures faults { IfOk result (λ m. faults_of m ≡ 0) }
     {
         Ok(MemSink {
             bytes: Vec::with_capacity(alloc, room)?,

@@ -18,13 +18,14 @@ pub struct MemSource {
 }
 
 impl MemSource {
-    ghost use Rattle.mars_base.specs.MemSource.{rest_of, failing_of, calls_of};
+    ghost use Rattle.mars_base.specs.MemSource.{rest_of, faults_of, failing_of, calls_of};
 
     /// An input of these bytes.
     pub fn new(bytes: Vec<u8>, failing: Vec<u64>) -> MemSource
         ensures rest { rest_of result ≡ bytes.items }
         ensures failing { failing_of result ≡ failing.items }
         ensures calls { calls_of result ≡ 0 }
+        ensures faults { faults_of result ≡ 0 }
     {
         MemSource {
             bytes,

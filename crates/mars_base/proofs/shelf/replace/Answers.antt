@@ -1,5 +1,5 @@
 use Rattle.std.proofs.Common.{◌≡◌, ◌<◌, ◌≤◌, ◌++◌, ◌∷◌, [], length, arith, subst, sym, ap, ◌∙◌, slice_index_or, Some}
-use Rattle.mars_base.specs.Outside.{file_at, place_at, SameBut}
+use Rattle.mars_base.specs.Outside.{file_at, place_at}
 use Rattle.mars_base.proofs.Files.{Replaced, replaced, added}
 use Rattle.mars_base.proofs.shelf.replace.Goals as goal
 
