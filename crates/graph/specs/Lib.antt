@@ -1,12 +1,15 @@
 pub mod Blocks
 pub mod Cycle
 pub mod Faults
+pub mod Feeders
 pub mod GraphOf
 pub mod JobGraph
 pub mod Jobs
+pub mod Length
 pub mod Masks
 pub mod Name
 pub mod Net
+pub mod NetGraph
 pub mod Order
 pub mod Rules
 pub mod Sound

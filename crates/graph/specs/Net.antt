@@ -1,5 +1,6 @@
 -- What the numbers of a net name.
-use Rattle.std.specs.Prelude.{◌≡◌, ℕ, ◌+◌, ◌/◌, Bool, ◌==◌, ◌&&◌, List, [], ◌∷◌, map, count_by, sum_by, slice_get, slice_index, Option, Some, None, Any}
+use Rattle.std.specs.Prelude.{◌≡◌, ℕ, ◌+◌, ◌/◌, Bool, ◌==◌, ◌&&◌, List, [], ◌∷◌, map, count_by, slice_get, slice_index, Option, Some, None, Any}
+use Rattle.std.specs.Int.{bit_at}
 use Rattle.graph.specs.declared.net.Net.{Net}
 use Rattle.graph.specs.declared.net.NetTask.{NetTask}
 use Rattle.graph.specs.declared.net.Transaction.{Transaction}
@@ -26,6 +27,18 @@ abbrev pub transaction_deadline : Option Transaction → ℕ
 transaction_deadline None = 0
 transaction_deadline (Some transaction) = transaction.deadline
 
+abbrev pub task_units : Option NetTask → ℕ
+task_units None = 0
+task_units (Some task) = task.units
+
+-- the units that may run a task, as a mask: bit n stands for unit n
+abbrev pub units_of : Net → ℕ → ℕ
+units_of net task = task_units (slice_get net.tasks task)
+
+-- the unit may run the task
+abbrev pub IsAllowed : Net → (task unit : ℕ) → Type 0
+IsAllowed net task unit = bit_at (units_of net task) unit ≡ 1
+
 -- the number of a task's transaction; 0 where there is no such task
 abbrev pub transaction_of : Net → ℕ → ℕ
 transaction_of net task = task_transaction (slice_get net.tasks task)
@@ -36,6 +49,10 @@ ins_of net task = task_ins (slice_get net.tasks task)
 
 abbrev pub outs_of : Net → ℕ → List ℕ
 outs_of net task = task_outs (slice_get net.tasks task)
+
+-- how many words an edge joins: those of its out port
+abbrev pub width_of : Net → Edge → ℕ
+width_of net edge = slice_index (outs_of net edge.from_task) edge.from_port
 
 -- the period and the deadline of a task: its transaction's
 abbrev pub period_of : Net → ℕ → ℕ

@@ -1,6 +1,7 @@
 //! What a project means: its net in numbers, when a net is sound, and its jobs.
 #![tactic(auto)]
 
+pub mod feeder;
 pub mod job;
 pub mod job_graph;
 mod jobs;
@@ -13,6 +14,7 @@ mod rules;
 mod sequence;
 pub mod soundness;
 
+pub use feeder::Feeder;
 pub use job::{GraphFault, Job};
 pub use job_graph::Graph;
 pub use net::{Edge, Net, NetTask, Plug, Transaction};
