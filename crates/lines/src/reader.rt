@@ -1,7 +1,7 @@
 //! The lines of an input.
 ghost use Rattle.std.specs.Prelude.{◌≡◌, ◌≤◌, ◌+◌, ℕ, Ok, Err, Some, IfOk, IfErr, IfSome, IsTrue, MatchResult, MatchOption, ◌↔◌, ◌⊎◌, ◌<◌, false, [], length};
 ghost use Rattle.std.specs.Option.{option_map};
-ghost use Rattle.std.specs.Io.KnownBytes.{prepend_known};
+ghost use Rattle.std.specs.Io.KnownBytes.{prepend_known, IsAtEnd};
 ghost use Rattle.mars_base.specs.Causes.{HasCause, Rose};
 ghost use Rattle.lines.specs.Found.{Passes, Finds, FindsFeed, HoldsFeed, IsFirstFeed, NoFeedBelow};
 
@@ -88,6 +88,7 @@ impl LineReader {
         ensures line { result ≡ Ok Next.Line → lines_left self.old (I.left source.old) (length into.old) ≡ option_map (Line into.new) (lines_left self.new (I.left source.new) (length into.old)) }
         ensures counted { result ≡ Ok Next.Line → (count_of self.new ≡ count_of self.old + 1) × (count_of self.old < 1000000) }
         ensures end { result ≡ Ok Next.End → IfSome (lines_left self.old (I.left source.old) (length into.old)) (λ lines. lines ≡ End) }
+        ensures at_end { result ≡ Ok Next.End → IsAtEnd (I.left source.new) }
         ensures bad { (n : ℕ) → result ≡ Err (LineFault.Bad n) → IfSome (lines_left self.old (I.left source.old) (length into.old)) (λ lines. lines ≡ Bad n) }
         ensures read { result ≡ Err LineFault.Read → Rose (I.faults source.old) (I.faults source.new) }
         ensures later { I.faults source.old ≤ I.faults source.new }

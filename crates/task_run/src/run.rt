@@ -1,8 +1,9 @@
 //! A task's run over the lines of an input.
-ghost use Rattle.std.specs.Prelude.{◌≡◌, ◌<◌, ◌≤◌, ◌^◌, [], length, Err};
+ghost use Rattle.std.specs.Prelude.{◌≡◌, ◌<◌, ◌≤◌, ◌^◌, [], length, Ok, Err};
 ghost use Rattle.mars_base.specs.Causes.{Rose};
 ghost use Rattle.mc_tree.specs.Instance.{is_in, is_out, is_state, width_of};
 ghost use Rattle.mc_tree.specs.Plain.{plain_task};
+ghost use Rattle.std.specs.Io.KnownBytes.{IsAtEnd};
 ghost use Rattle.std.specs.Option.{option_map};
 ghost use Rattle.task_run.specs.Follows.{RunsAs};
 ghost use Rattle.task_run.specs.Progress.{RunAnswers};
@@ -42,6 +43,7 @@ pub fn run_lines<C: Cpu, I: Source, O: Sink>(
     requires state_words { C.states_of program.now ≡ width_of is_state (plain_task task.now).cells }
     ensures answer { RunAnswers (plain_task task.now) maxt (C.execution program.now maxt)
         (option_map (lines_of (width_of is_in (plain_task task.now).cells)) (I.left input.old)) (O.holds out.old) (O.holds out.new) result }
+    ensures at_end { result ≡ Ok tt → IsAtEnd (I.left input.new) }
     ensures read { result ≡ Err RunFault.Read → Rose (I.faults input.old) (I.faults input.new) }
     ensures write { result ≡ Err RunFault.Write → Rose (O.faults out.old) (O.faults out.new) }
     ensures later_in { I.faults input.old ≤ I.faults input.new }
@@ -107,6 +109,7 @@ fn run_each<C: Cpu, I: Source, O: Sink>(
     requires waiting { buffer.old ≡ [] }
     ensures answer { RunAnswers (plain_task task.now) maxt (C.execution program.now maxt)
         (option_map (lines_of (width_of is_in (plain_task task.now).cells)) (I.left input.old)) (O.holds out.old) (O.holds out.new) result }
+    ensures at_end { result ≡ Ok tt → IsAtEnd (I.left input.new) }
     ensures read { result ≡ Err RunFault.Read → Rose (I.faults input.old) (I.faults input.new) }
     ensures write { result ≡ Err RunFault.Write → Rose (O.faults out.old) (O.faults out.new) }
     ensures later_in { I.faults input.old ≤ I.faults input.new }
