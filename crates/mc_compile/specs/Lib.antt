@@ -1,5 +1,6 @@
 pub mod Coded
 pub mod Correct
 pub mod Cost
+pub mod Follows
 pub mod Translate
 pub mod Whole
