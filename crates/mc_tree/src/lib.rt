@@ -3,10 +3,12 @@
 
 pub mod kind;
 pub mod raw;
+pub mod symbol;
 pub mod token;
 pub mod tree;
 
-pub use kind::Kind;
+pub use kind::{Fault, Kind};
 pub use raw::{Name, RawBody, RawDecl, RawExpr, RawFunc, RawNumber, RawStmt, RawTask};
+pub use symbol::{Callee, Symbol};
 pub use token::{Key, Sign, Token, TokenKind};
 pub use tree::{Cell, Expr, Func, Stmt, Task};
