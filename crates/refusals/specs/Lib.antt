@@ -1,0 +1,4 @@
+pub mod Causes
+pub mod Said
+pub mod Status
+pub mod Words

@@ -1,0 +1,10 @@
+pub mod EachFacts
+pub mod ExactFacts
+pub mod FrontFacts
+pub mod Gives
+pub mod OnceFacts
+pub mod ReadFacts
+pub mod Relations
+pub mod SoundFacts
+pub mod Turns
+pub mod WithinFacts
