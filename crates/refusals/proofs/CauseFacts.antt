@@ -1,5 +1,5 @@
 -- Counts that rose.
-use Rattle.std.proofs.Common.{◌≡◌, List, None, Some, arith}
+use Rattle.std.proofs.Common.{◌≡◌, None, Some, arith}
 use Rattle.refusals.specs.Causes.{Counts, Later, Caused}
 use Rattle.refusals.specs.Status.{status_of}
 use Rattle.refusals.specs.declared.refusal.Refusal.{Refusal}

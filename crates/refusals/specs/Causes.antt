@@ -1,5 +1,5 @@
 -- What a refusal that no file and no line asked for was caused by.
-use Rattle.std.specs.Prelude.{◌≤◌, ℕ, List, None, Some}
+use Rattle.std.specs.Prelude.{◌≤◌, ℕ, None, Some}
 use Rattle.mars_base.specs.Causes.{Rose}
 use Rattle.refusals.specs.declared.refusal.Refusal.{Refusal}
 use Rattle.refusals.specs.declared.refusal.Refusal.TheVariants as refusal

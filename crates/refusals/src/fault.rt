@@ -10,21 +10,42 @@ use mc_tree::Kind;
 #[derive(Debug, Drop)]
 pub enum Fault {
     /// The byte at this offset begins no token.
-    BadByte { file: Text, at: u32 },
+    BadByte {
+        file: Text,
+        at: u32,
+    },
     /// The token of this number, from 0, is the first with which the tokens begin no task.
-    Syntax { file: Text, token: u32 },
+    Syntax {
+        file: Text,
+        token: u32,
+    },
     /// A rule of the language is broken at these bytes.
-    Rule { file: Text, span: Span, kind: Kind },
+    Rule {
+        file: Text,
+        span: Span,
+        kind: Kind,
+    },
     /// The source is no text that is built yet.
-    NotBuilt { file: Text },
+    NotBuilt {
+        file: Text,
+    },
     /// The code has more instructions than its addresses can count: this many.
-    CodeTooLong { file: Text, length: u64 },
+    CodeTooLong {
+        file: Text,
+        length: u64,
+    },
     /// No execution of the task ends.
-    NoPath { file: Text },
+    NoPath {
+        file: Text,
+    },
     /// An execution may take more cycles than the bound can count.
-    MaxtTooLong { file: Text },
+    MaxtTooLong {
+        file: Text,
+    },
     /// The project is no document.
-    NotToml { project: Text },
+    NotToml {
+        project: Text,
+    },
     /// A rule of projects is broken at this entry.
     Project {
         project: Text,
@@ -32,11 +53,20 @@ pub enum Fault {
         kind: ProjectKind,
     },
     /// The cycle of the project would have this many ticks.
-    Cycle { project: Text, ticks: u64 },
+    Cycle {
+        project: Text,
+        ticks: u64,
+    },
     /// The project has this many jobs.
-    Jobs { project: Text, count: u64 },
+    Jobs {
+        project: Text,
+        count: u64,
+    },
     /// A cycle of the project has this many sensor words.
-    SensorWords { project: Text, count: u64 },
+    SensorWords {
+        project: Text,
+        count: u64,
+    },
 }
 
 /// The words of a rule's kind, as they are printed.

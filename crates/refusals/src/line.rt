@@ -70,7 +70,13 @@ fn put_fault<E: Sink>(err: &mut E, fault: &Fault) -> Result<(), SinkFault>
             place,
             kind,
         } => put_project(err, project, *place, *kind),
-        Fault::Cycle { project, ticks } => put_at(err, project, b": cycle of ", *ticks, b" ticks\n"),
+        Fault::Cycle { project, ticks } => put_at(
+            err,
+            project,
+            b": cycle of ",
+            *ticks,
+            b" ticks\n",
+        ),
         Fault::Jobs { project, count } => put_at(err, project, b": ", *count, b" jobs\n"),
         Fault::SensorWords { project, count } => {
             put_at(err, project, b": ", *count, b" sensor words\n")
@@ -86,8 +92,18 @@ fn put_image<E: Sink>(err: &mut E, bad: ImageBad) -> Result<(), SinkFault>
     match bad {
         ImageBad::Byte(offset) => put_number(err, b"mars: bad image: byte ", offset as u64, b"\n"),
         ImageBad::Net => err.put(b"mars: bad image: net\n"),
-        ImageBad::Code(task) => put_number(err, b"mars: bad image: code of task ", task as u64, b"\n"),
-        ImageBad::Table(rule) => put_number(err, b"mars: bad image: table rule ", rule as u64, b"\n"),
+        ImageBad::Code(task) => put_number(
+            err,
+            b"mars: bad image: code of task ",
+            task as u64,
+            b"\n",
+        ),
+        ImageBad::Table(rule) => put_number(
+            err,
+            b"mars: bad image: table rule ",
+            rule as u64,
+            b"\n",
+        ),
     }
 }
 

@@ -1,5 +1,5 @@
 -- Stages that are cut off leave a front of what they mean.
-use Rattle.std.proofs.Common.{◌≡◌, ◌⊎◌, inl, inr, ℕ, List, [], ◌++◌, Option, Some, None, Result, Ok, Err, refl, sym, ap, ◌∙◌, subst, take, drop, append_assoc, append-nil, take-append-drop}
+use Rattle.std.proofs.Common.{◌≡◌, inl, inr, ℕ, List, [], ◌++◌, Option, Some, None, Result, Ok, Err, refl, sym, ap, ◌∙◌, subst, take, drop, append_assoc, append-nil, take-append-drop}
 use Rattle.std.specs.Io.KnownBytes.{append_known}
 use Rattle.refusals.specs.declared.refusal.Refusal.{Refusal}
 use Rattle.stages.proofs.Relations.{Within, IsKept, KeepsLeft, CutsFront, Grows, OnceTo}

@@ -1,19 +1,18 @@
 -- Stages mean one answer.
-use Rattle.std.proofs.Common.{◌≡◌, ◌≢◌, ◌⊎◌, inl, inr, ℕ, ◌<◌, ◌≤◌, List, length, Option, Some, None, Result, Ok, Err, Bool, true, false, refl, sym, ap, ◌∙◌, subst, arith}
+use Rattle.std.proofs.Common.{◌≡◌, ◌≢◌, inl, inr, ℕ, List, length, Option, Some, None, Result, Ok, Err, Bool, true, false, refl, sym, ap, ◌∙◌, subst, arith}
 use Rattle.std.specs.Io.KnownBytes.{append_known}
 use Rattle.std.specs.Str.{bytes_eq}
 use Rattle.std.proofs.lemmas.Slice.Eq.{bytes_eq-Decides}
 use Rattle.mars_base.specs.declared.file.File.{File}
 use Rattle.mars_base.specs.Outside.{file_at, Wrote}
 use Rattle.refusals.specs.declared.refusal.Refusal.{Refusal}
-use Rattle.refusals.specs.declared.refusal.Refusal.TheVariants as refusal
-use Rattle.stages.specs.Files.{reading, writing, FileIs, IsMissing, IsLong, FileGives, Whole, Missing, Long}
+use Rattle.stages.specs.Files.{reading, writing, FileGives, Whole, Missing, Long}
 use Rattle.stages.specs.Exact.{FilesAlike, LeftAlike, SameEnd, Alike}
 use Rattle.stages.proofs.Relations.{OnceTo, OneAnswer}
 use Rattle.stages.specs.Stage.{Stage, in_turn, judging, giving, printing}
 use Rattle.stages.specs.World.{Held}
 use Rattle.stages.proofs.Gives.{ok_once}
-use Rattle.stages.proofs.Turns.{fails, passes, err_once, not_err}
+use Rattle.stages.proofs.Turns.{fails, err_once, not_err}
 
 -- one stage after another
 pub once_turn : {A B : Type 0} (E : Held → Held → Type 0) (first : Stage A) (next : A → Stage B) → ((n m : Held) → Alike n m → E n m) → OnceTo Alike first → ((a : A) → OnceTo E (next a)) → OnceTo E (in_turn first next)

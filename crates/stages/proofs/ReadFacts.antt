@@ -1,6 +1,5 @@
 -- What a read, a write and a put of the outside mean as stages.
-use Rattle.std.proofs.Common.{◌≡◌, ◌⊎◌, inl, inr, ℕ, ◌<◌, ◌≤◌, List, length, Option, Some, None, Result, Ok, Err, refl, sym, ap, ◌∙◌, subst, arith}
-use Rattle.std.specs.Prelude.{IsErrOf}
+use Rattle.std.proofs.Common.{◌≡◌, ◌⊎◌, inl, inr, ℕ, ◌≤◌, List, length, Option, Some, None, Ok, Err, refl, sym, subst}
 use Rattle.mars_base.specs.Causes.{Rose}
 use Rattle.mars_base.specs.declared.file.File.{File}
 use Rattle.mars_base.specs.declared.outside.ShelfFault.{ShelfFault}
@@ -8,7 +7,7 @@ use Rattle.mars_base.specs.declared.outside.ShelfFault.TheVariants as fault
 use Rattle.mars_base.specs.Outside.{Reads}
 use Rattle.refusals.specs.declared.refusal.Refusal.{Refusal}
 use Rattle.refusals.specs.declared.refusal.Refusal.TheVariants as refusal
-use Rattle.stages.specs.Files.{FileIs, IsMissing, IsLong, FileGives, Whole, Missing, Long, reading}
+use Rattle.stages.specs.Files.{FileIs, Whole, Missing, Long, reading}
 use Rattle.stages.specs.Helpers.{refused_read}
 use Rattle.stages.specs.Stage.{Does}
 use Rattle.stages.specs.World.{Held}

@@ -1,5 +1,5 @@
 -- What the lemmas say of stages. No contract cites these.
-use Rattle.std.specs.Prelude.{◌≡◌, ℕ, List, Option, Some, Result, Ok, Err}
+use Rattle.std.specs.Prelude.{◌≡◌, ℕ, List, Some, Result, Err}
 use Rattle.mars_base.specs.Outside.{Refused}
 use Rattle.refusals.specs.declared.refusal.Refusal.{Refusal}
 use Rattle.stages.specs.Exact.{Alike, SameEnd, IsFront}

@@ -1,7 +1,7 @@
 -- Sound stages in turn are sound.
-use Rattle.std.proofs.Common.{◌≡◌, ℕ, List, Result}
+use Rattle.std.proofs.Common.{ℕ, List, Result}
 use Rattle.refusals.specs.declared.refusal.Refusal.{Refusal}
-use Rattle.stages.proofs.Relations.{Within, KeepsLeft, CutsFront, Grows, OnceTo, OneAnswer, Passes, Lasts}
+use Rattle.stages.proofs.Relations.{KeepsLeft, OneAnswer, Passes, Lasts}
 use Rattle.stages.specs.Files.{reading, writing}
 use Rattle.stages.specs.Exact.{IsFront, Alike, SameEnd}
 use Rattle.stages.specs.Stage.{Stage, in_turn, judging, giving, printing}

@@ -1,13 +1,12 @@
 -- Stages one after another.
-use Rattle.std.proofs.Common.{◌≡◌, ◌⊎◌, inl, inr, ℕ, ◌<◌, ◌≤◌, List, Option, Some, None, Result, Ok, Err, refl, sym, ap, ◌∙◌, subst, arith}
-use Rattle.mars_base.specs.Causes.{Rose}
+use Rattle.std.proofs.Common.{◌≡◌, ◌⊎◌, inl, inr, ℕ, List, Result, Ok, Err, refl, sym, ap, subst}
 use Rattle.refusals.specs.declared.refusal.Refusal.{Refusal}
 use Rattle.refusals.specs.declared.refusal.Refusal.TheVariants as refusal
 use Rattle.refusals.proofs.CauseFacts.{wider, later_later, later_same}
 use Rattle.stages.specs.Stage.{Stage, Does, in_turn, judging, giving, printing}
 use Rattle.stages.specs.Files.{writing}
 use Rattle.stages.specs.World.{Held}
-use Rattle.refusals.specs.Causes.{Counts, Later, Caused}
+use Rattle.refusals.specs.Causes.{Counts, Caused}
 
 abbrev pub fails : (A : Type 0) → Refusal → Result A Refusal
 fails A e = Err e

@@ -1,7 +1,7 @@
 -- What a relation that each stage keeps says of all stages.
-use Rattle.std.proofs.Common.{◌≡◌, ◌≢◌, ◌⊎◌, inl, inr, ℕ, List, Option, Some, None, Result, Ok, Err, refl, sym, ap, ◌∙◌, subst, take}
+use Rattle.std.proofs.Common.{◌≡◌, ◌⊎◌, inl, inr, ℕ, List, Option, Some, None, Result, Ok, Err, refl, sym, ap, ◌∙◌, subst}
 use Rattle.mars_base.specs.declared.file.File.{File}
-use Rattle.mars_base.specs.Outside.{file_at, Refused, Wrote}
+use Rattle.mars_base.specs.Outside.{Refused, Wrote}
 use Rattle.refusals.specs.declared.refusal.Refusal.{Refusal}
 use Rattle.refusals.specs.declared.refusal.Refusal.TheVariants as refusal
 use Rattle.stages.proofs.Relations.{Within, IsKept, Refuses, KeepsFiles, KeepsOthers}
@@ -9,7 +9,7 @@ use Rattle.stages.specs.Files.{reading, writing, FileGives, Whole, Missing, Long
 use Rattle.stages.specs.Stage.{Stage, Does, in_turn, judging, giving, printing}
 use Rattle.stages.specs.World.{Held}
 use Rattle.refusals.specs.Causes.{Counts, Caused}
-use Rattle.stages.proofs.Turns.{fails, passes, err_once, not_err}
+use Rattle.stages.proofs.Turns.{fails, err_once, not_err}
 
 pub within_turn : {A B : Type 0} (R : Held → Held → Type 0) (first : Stage A) (next : A → Stage B) → IsKept R → Within R first → ((a : A) → Within R (next a)) → Within R (in_turn first next)
 within_turn {A} {B} R first next kept one two = record { by_meant = by_meant; by_cut = by_cut }

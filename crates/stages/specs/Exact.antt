@@ -1,5 +1,5 @@
 -- What a call leaves is exactly what its stages mean, unless want of memory or a counted fault cut it off.
-use Rattle.std.specs.Prelude.{◌≡◌, ◌⊎◌, ℕ, List, Option, None, Some, Result, Ok, Err}
+use Rattle.std.specs.Prelude.{◌≡◌, ◌⊎◌, ℕ, List, Option, None, Some, Result, Err}
 use Rattle.std.specs.Io.KnownBytes.{append_known}
 use Rattle.mars_base.specs.declared.file.File.{File}
 use Rattle.mars_base.specs.Outside.{file_at}

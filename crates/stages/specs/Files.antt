@@ -5,7 +5,6 @@ use Rattle.mars_base.specs.Outside.{file_at, Wrote, Refused}
 use Rattle.refusals.specs.declared.refusal.Refusal.{Refusal}
 use Rattle.refusals.specs.declared.refusal.Refusal.TheVariants as refusal
 use Rattle.stages.specs.Stage.{Stage}
-use Rattle.stages.specs.World.{Held}
 
 -- the whole file, where the shelf tells
 abbrev pub FileIs : Option (List File) → List ℕ → List ℕ → Type 0

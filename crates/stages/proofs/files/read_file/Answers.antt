@@ -1,6 +1,6 @@
-use Rattle.std.proofs.Common.{◌≡◌, sym, subst, refl, List, ℕ, Option, Ok, Err, arith}
+use Rattle.std.proofs.Common.{sym, subst, List, Option, Ok, arith}
 use Rattle.mars_base.specs.declared.file.File.{File}
-use Rattle.stages.proofs.ReadFacts.{read_whole, read_refused, file_is}
+use Rattle.stages.proofs.ReadFacts.{read_whole, file_is}
 use Rattle.stages.specs.Files.{reading}
 use Rattle.stages.specs.Stage.{Does}
 use Rattle.stages.specs.World.{Held}
