@@ -13,7 +13,7 @@ product_capped c (suc x) (suc y) (suc u) zero some left right = absurd (omega ar
 product_capped c (suc x) (suc y) (suc u) (suc v) some left right = omega arith
 
 -- entries that agree under the cap have greatest entries that agree under it
-greatest_below_capped : (n c : ℕ) (g h : ℕ → ℕ) → ((i : ℕ) → i < n → min (g i) c ≡ min (h i) c) → min (greatest_below n g) c ≡ min (greatest_below n h) c
+pub greatest_below_capped : (n c : ℕ) (g h : ℕ → ℕ) → ((i : ℕ) → i < n → min (g i) c ≡ min (h i) c) → min (greatest_below n g) c ≡ min (greatest_below n h) c
 greatest_below_capped zero c g h same = refl
 greatest_below_capped (suc n) c g h same =
     let below = greatest_below_capped n c g h (λ i lt. same i (omega arith)) in

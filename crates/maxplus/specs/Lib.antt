@@ -1,1 +1,2 @@
+pub mod Concave
 pub mod MaxPlus
