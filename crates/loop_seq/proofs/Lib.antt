@@ -1,3 +1,4 @@
+pub mod Fits
 pub mod Price
 mod Rows
 pub mod Serving
