@@ -9,7 +9,8 @@ use Rattle.mc_compile.specs.Whole.{translate}
 use Rattle.mc_tree.specs.Instance.{is_in, width_of}
 use Rattle.mc_tree.specs.Tree.{Tree}
 use Rattle.thin_reader.specs.Text.{ThinText}
-use Rattle.word_machine.specs.Execution.{Ran, exec}
+use Rattle.processor.specs.Results.{Ran}
+use Rattle.word_code.specs.Execution.{exec}
 
 -- the file isn't there, is above 65,536 bytes, is no source that is built, or is the source of a task
 pub data Verdict : Type 0 where

@@ -5,9 +5,9 @@ use Rattle.mars_base.specs.declared.word.BinOp.TheVariants.{Or, And, BitOr, BitX
 use Rattle.mars_base.specs.declared.word.UnOp.{UnOp}
 use Rattle.mars_base.specs.declared.word.UnOp.TheVariants as one
 use Rattle.mc_tree.specs.Tree.{Ex, Num, Var, Elem, Un, Bin}
-use Rattle.word_machine.specs.Cost.{cost_of}
-use Rattle.word_machine.specs.declared.code.Instr.TheVariants.{Store, LoadX}
-use Rattle.word_machine.specs.declared.code.Slot.{Slot}
+use Rattle.word_code.specs.Cost.{cost_of}
+use Rattle.word_code.specs.declared.code.Instr.TheVariants.{Store, LoadX}
+use Rattle.word_code.specs.declared.code.Slot.{Slot}
 use Rattle.mc_compile.specs.Translate.{slot, unary_instr, between, joined, ex_code, args_code, stores_code}
 use Rattle.mc_compile.specs.Cost.{costs_of, operator_cost, ex_cost, args_cost}
 

@@ -18,13 +18,15 @@ use Rattle.mc_tree.specs.declared.tree.Cell.{Cell}
 use Rattle.mc_tree.specs.Tree.{Ex, Num, Var, Elem, Un, Bin}
 use Rattle.mc_tree.specs.Meaning.{then_word, elem_at, both, value_of}
 use Rattle.mc_tree.specs.Sound.{IsCell, SoundE}
-use Rattle.word_machine.specs.Action.{Combines, Changes, action_of}
-use Rattle.word_machine.specs.Runs.{Out, Broken, Run, breaks, goes}
-use Rattle.word_machine.specs.State.{State, at, Goes, found, gives}
-use Rattle.word_machine.specs.Step.{act, does, step}
-use Rattle.word_machine.specs.declared.code.Instr.{Instr}
-use Rattle.word_machine.specs.declared.code.Instr.TheVariants.{Add, Sub, Mul, Div, Rem, And, Or, Xor, Shl, Shr, Eq, Lt, Le, Neg, Not, Inv}
-use Rattle.word_machine.specs.declared.code.Slot.{Slot}
+use Rattle.word_code.specs.Action.{Combines, Changes, action_of}
+use Rattle.processor.specs.Ends.{End, Broken, Goes, found, gives}
+use Rattle.processor.specs.System.{ends, goes}
+use Rattle.word_code.specs.Runs.{Run}
+use Rattle.word_code.specs.State.{State, at}
+use Rattle.word_code.specs.Step.{act, does, step}
+use Rattle.word_code.specs.declared.code.Instr.{Instr}
+use Rattle.word_code.specs.declared.code.Instr.TheVariants.{Add, Sub, Mul, Div, Rem, And, Or, Xor, Shl, Shr, Eq, Lt, Le, Neg, Not, Inv}
+use Rattle.word_code.specs.declared.code.Slot.{Slot}
 use Rattle.mc_compile.specs.Translate.{slot, unary_instr, between, negated, joined}
 use Rattle.mc_compile.specs.Coded.{Has, HasAll, CodedE}
 use Rattle.mc_compile.proofs.Placed.{only}
@@ -64,7 +66,7 @@ place_below a n (negsuc i) k e = cc
 module _ (instrs : List Slot) where
   -- each run from t gives one from s
   pub record Leads (s t : State) : Type 0 where
-    pub by : (o : Out) → Run instrs t o → Run instrs s o
+    pub by : (o : End (List ℤ)) → Run instrs t o → Run instrs s o
 
   -- no step
   pub stays : (s : State) → Leads s s
@@ -106,7 +108,7 @@ module _ (instrs : List Slot) (rs : List ℕ) where
       stepped = one_step p q (slot i h) (y ∷ x ∷ st) ws ks c ∙ ap (λ a. act a p (y ∷ x ∷ st) ws ks rs) is
 
       go : (o : Option ℤ) → binary_of op x y ≡ o → Gives instrs (here p (y ∷ x ∷ st) ws ks) (λ v. here q (v ∷ st) ws ks) o
-      go None e = breaks (stepped ∙ ap (λ o. gives o (λ w. Goes (here (p + 1) (w ∷ st) ws ks))) e)
+      go None e = ends (stepped ∙ ap (λ o. gives o (λ w. Goes (here (p + 1) (w ∷ st) ws ks))) e)
       go (Some v) e = (binary_word op x y v f g e, next p q (slot i h) (y ∷ x ∷ st) ws (v ∷ st) ws ks ks c (ap (λ a. act a p (y ∷ x ∷ st) ws ks rs) is ∙ ap (λ o. gives o (λ w. Goes (here (p + 1) (w ∷ st) ws ks))) e))
 
   -- an instruction with one operand
@@ -199,7 +201,7 @@ module _ (instrs : List Slot) (rs : List ℕ) where
     expr_runs (Elem a w i) h p q st ws ks c sound are = go (value_of i ws) (expr_runs i h p c.0 st ws ks c.1 sound.1 are)
       where
         element : (v : ℤ) (o : Option ℕ) → place_of a w v ≡ o → Gives instrs (here c.0 (v ∷ st) ws ks) (λ x. here q (x ∷ st) ws ks) (elem_at ws o)
-        element v None e = breaks (one_step c.0 q _ (v ∷ st) ws ks c.2 ∙ ap (λ o. gives o (λ k. found (slice_get ws k) (λ x. Goes (here (c.0 + 1) (x ∷ st) ws ks)))) e)
+        element v None e = ends (one_step c.0 q _ (v ∷ st) ws ks c.2 ∙ ap (λ o. gives o (λ k. found (slice_get ws k) (λ x. Goes (here (c.0 + 1) (x ∷ st) ws ks)))) e)
         element v (Some k) e =
             let inside : k < n = omega (arith, place_below a w v k e, fits a w sound.0.0) in (
               word_fits n ws k are inside,

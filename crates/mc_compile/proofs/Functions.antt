@@ -9,9 +9,10 @@ use Rattle.mc_tree.specs.Counters.{CountedB, CountedF}
 use Rattle.mc_tree.specs.Meaning.{After, Done, Broken, Back, Answers, Fails, value_of, all_do, answered, answer_of, run_fn, run_all}
 use Rattle.mc_tree.specs.Sound.{IsCell}
 use Rattle.mc_tree.proofs.Checked.{FnSound, counted_up_b}
-use Rattle.word_machine.specs.Runs.{Broken as Broke, goes}
-use Rattle.word_machine.specs.State.{State, at}
-use Rattle.word_machine.specs.declared.code.Slot.{Slot}
+use Rattle.processor.specs.Ends.{Broken as Broke}
+use Rattle.processor.specs.System.{goes}
+use Rattle.word_code.specs.State.{State, at}
+use Rattle.word_code.specs.declared.code.Slot.{Slot}
 use Rattle.mc_compile.specs.Coded.{CodedF, CodedFs}
 use Rattle.mc_compile.proofs.Counts.{Keeps}
 use Rattle.mc_compile.proofs.Expressions.{AreWords, Leads, on, Gives, one_step, expr_runs}

@@ -3,8 +3,8 @@ use Rattle.std.proofs.Common.{◌≡◌, ℕ, ◌+◌, ◌<◌, ◌≤◌, List,
 use Rattle.std.specs.Option.{option_map}
 use Rattle.mc_tree.specs.Counters.{Counted, CountedB}
 use Rattle.mc_tree.specs.Tree.{Ex, Num, Var, Elem, Un, Bin, St, Assign, AssignAt, Invoke, When, Choice, Loop, Scoped, Count, Series, Bl, Nil, Then, Ls, NoLoop, OneLoop}
-use Rattle.word_machine.specs.Typing.{height_at}
-use Rattle.word_machine.specs.declared.code.Slot.{Slot}
+use Rattle.word_code.specs.Typing.{height_at}
+use Rattle.word_code.specs.declared.code.Slot.{Slot}
 use Rattle.mc_compile.specs.Translate.{between, joined}
 use Rattle.mc_compile.specs.Coded.{Has, CodedE, CodedA, CodedS, Coded, CodedB, CodedL}
 use Rattle.mc_compile.proofs.Placed.{all_end}

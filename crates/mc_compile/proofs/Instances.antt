@@ -10,13 +10,15 @@ use Rattle.mc_tree.specs.Instance.{Outcome, Gives, Breaks as Breaking, is_out, i
 use Rattle.mc_tree.specs.Sound.{IsCell}
 use Rattle.mc_tree.specs.Checked.{words_in, IsChecked}
 use Rattle.mc_tree.proofs.Checked.{checked_body, checked_fn, checked_cell, counted_up_b}
-use Rattle.word_machine.specs.Cells as cells
-use Rattle.word_machine.specs.Execution.{Halts, Breaks}
-use Rattle.word_machine.specs.Runs.{Out, Halted, Broken as Broke, Run, ends, cycles_of}
-use Rattle.word_machine.specs.State.{State, at}
-use Rattle.word_machine.specs.declared.code.Code.{Code}
-use Rattle.word_machine.specs.declared.code.Slot.{Slot}
-use Rattle.word_machine.proofs.Runs.{run_once}
+use Rattle.word_code.specs.Cells as cells
+use Rattle.processor.specs.Ends.{End, Halted, Broken as Broke}
+use Rattle.processor.specs.System.{ends, cycles_of}
+use Rattle.word_code.specs.Execution.{Halts, Breaks}
+use Rattle.word_code.specs.Runs.{Run}
+use Rattle.word_code.specs.State.{State, at}
+use Rattle.word_code.specs.declared.code.Code.{Code}
+use Rattle.word_code.specs.declared.code.Slot.{Slot}
+use Rattle.word_code.proofs.Runs.{run_once}
 use Rattle.mc_compile.specs.Coded.{CodedTask}
 use Rattle.mc_compile.specs.Correct.{AreGiven, EndsAs, IsRight}
 use Rattle.mc_compile.specs.Whole.{translate, shapes_of}
@@ -118,7 +120,7 @@ module _ (t : Tree) (h : IsChecked t) where
     unfolding instance_of
     ends_as = go (all_do params (run_all params (reverse t.funcs)) t.body (words_at_start t.cells state ins) 0) (body_runs (placed_task t) (words_at_start t.cells state ins) are_words)
       where
-        moved : (o : Out) → Run code.instrs (at 0 [] (words_at_start t.cells state ins) (replicate code.counters 0) []) o → Run code.instrs (cells.start_of code state ins) o
+        moved : (o : End (List ℤ)) → Run code.instrs (at 0 [] (words_at_start t.cells state ins) (replicate code.counters 0) []) o → Run code.instrs (cells.start_of code state ins) o
         moved o r = subst (λ ws. Run code.instrs (at 0 [] ws (replicate code.counters 0) []) o) start_is r
 
         go : (o : After) → RunsTo code.instrs (at 0 [] (words_at_start t.cells state ins) (replicate code.counters 0) []) o → EndsAs code state ins (ended t.cells o)

@@ -8,7 +8,7 @@ use Rattle.mars_base.specs.declared.word.Role.TheVariants as role
 use Rattle.mc_tree.specs.declared.tree.Cell.{Cell}
 use Rattle.mc_tree.specs.Checked.{words_in}
 use Rattle.mc_tree.specs.Instance.{is_in, is_state, width_of, cell_at_start, words_at_start, words_of}
-use Rattle.word_machine.specs.Cells.{total_width, cell_words, filled, cells_at_start}
+use Rattle.word_code.specs.Cells.{total_width, cell_words, filled, cells_at_start}
 use Rattle.mc_compile.specs.Whole.{is_outside, shape_of, shapes_of}
 use Rattle.mc_compile.proofs.Words.{IsWord}
 

@@ -5,8 +5,8 @@ use Rattle.std.proofs.Math.Seq.{get_or-append_seam}
 use Rattle.std.proofs.lemmas.Option.{slice_get-get_or}
 use Rattle.mc_tree.specs.Tree.{Ex, Num, Var, Elem, Un, Bin, St, Assign, AssignAt, Invoke, When, Choice, Loop, Scoped, Count, Series, Bl, Nil, Then, Ls, NoLoop, OneLoop, Fn, Tree}
 use Rattle.mc_tree.specs.Meaning.{params_at}
-use Rattle.word_machine.specs.declared.code.Instr.TheVariants.{Store, LoadX, StoreX, Jmp, Jz, CInc, Ret, Halt}
-use Rattle.word_machine.specs.declared.code.Slot.{Slot}
+use Rattle.word_code.specs.declared.code.Instr.TheVariants.{Store, LoadX, StoreX, Jmp, Jz, CInc, Ret, Halt}
+use Rattle.word_code.specs.declared.code.Slot.{Slot}
 use Rattle.mc_compile.specs.Translate.{slot, unary_instr, between, joined, ex_len, ex_code, args_len, args_code, stores_code, st_len, bl_len, st_code, bl_code, ls_code}
 use Rattle.mc_compile.specs.Whole.{fn_len, fn_code, fns_code, fn_starts, main_len, starts_of, instrs_of, translate}
 use Rattle.mc_compile.specs.Coded.{Has, HasAll, CodedE, CodedA, CodedS, Coded, CodedB, CodedL, CodedF, CodedFs, CodedTask}

@@ -6,10 +6,12 @@ use Rattle.mars_base.specs.declared.word.Role.TheVariants as role
 use Rattle.mars_base.specs.declared.word.BinOp.TheVariants as two
 use Rattle.mc_tree.specs.declared.tree.Cell.{Cell}
 use Rattle.mc_tree.specs.Tree.{Ex, Num, Var, Elem, Bin, St, Assign, AssignAt, Invoke, When, Choice, Loop, Scoped, Count, Series, Bl, Nil, Then, NoLoop, OneLoop, Fn, Tree}
-use Rattle.word_machine.specs.Cost.{cost_of}
-use Rattle.word_machine.specs.Execution.{exec, exec_from, Done, Broke}
-use Rattle.word_machine.specs.declared.code.CellShape.{CellShape}
-use Rattle.word_machine.specs.declared.code.Instr.TheVariants.{Push, Load, Store, LoadX, StoreX, Add, Sub, Div, Or, Lt, Le, Not, Jmp, Jz, CZero, CInc, Call, Ret, Halt}
+use Rattle.word_code.specs.Cost.{cost_of}
+use Rattle.processor.specs.Ends.{Over, Halted, Broken}
+use Rattle.processor.specs.System.{exec_by}
+use Rattle.word_code.specs.Execution.{exec}
+use Rattle.word_code.specs.declared.code.CellShape.{CellShape}
+use Rattle.word_code.specs.declared.code.Instr.TheVariants.{Push, Load, Store, LoadX, StoreX, Add, Sub, Div, Or, Lt, Le, Not, Jmp, Jz, CZero, CInc, Call, Ret, Halt}
 use Rattle.mc_compile.specs.Cost.{ex_cost}
 use Rattle.mc_compile.specs.Translate.{slot}
 use Rattle.mc_compile.specs.Whole.{translate, code_len}
@@ -44,8 +46,8 @@ count_cells : (translate count_task).cells ≡ shape role.In ∷ shape role.Out 
 count_cells = refl
 
 -- 3 for y = 0, CZERO, four tests of 7, three turns of 9 and HALT
-count_cycles : exec (translate count_task) 100 [] (pos 3 ∷ []) ≡ Done [] (pos 3 ∷ []) (3 + 1 + 4 * 7 + 3 * 9 + 1)
-unfolding exec_from
+count_cycles : exec (translate count_task) 100 [] (pos 3 ∷ []) ≡ Over (Halted ([], (pos 3 ∷ []))) (3 + 1 + 4 * 7 + 3 * 9 + 1)
+unfolding exec_by
 count_cycles = refl
 
 -- a test with its jump, and a turn with its count and its jump
@@ -56,8 +58,8 @@ count_turn_cost : cost_of (CInc 0 3) + (ex_cost (Bin two.Add (Var 1) (Num (pos 1
 count_turn_cost = refl
 
 -- a fourth turn is above the bound
-count_breaks : exec (translate count_task) 100 [] (pos 4 ∷ []) ≡ Broke 61
-unfolding exec_from
+count_breaks : exec (translate count_task) 100 [] (pos 4 ∷ []) ≡ Over Broken 61
+unfolding exec_by
 count_breaks = refl
 
 -- in a; out y; body { y = a + 1; }
@@ -68,8 +70,8 @@ inc_instrs : (translate inc_task).instrs
     ≡ slot (Load 0) 0 ∷ slot (Push (pos 1)) 1 ∷ slot Add 2 ∷ slot (Store 1) 1 ∷ slot Halt 0 ∷ []
 inc_instrs = refl
 
-inc_cycles : exec (translate inc_task) 7 [] (pos 41 ∷ []) ≡ Done [] (pos 42 ∷ []) 7
-unfolding exec_from
+inc_cycles : exec (translate inc_task) 7 [] (pos 41 ∷ []) ≡ Over (Halted ([], (pos 42 ∷ []))) 7
+unfolding exec_by
 inc_cycles = refl
 
 -- in x; out y; func f(a, b) { return a - b; } body { y = f(x, 2); }
@@ -93,8 +95,8 @@ call_places = refl
 call_cells : (translate call_task).cells ≡ shape role.In ∷ shape role.Out ∷ []
 call_cells = refl
 
-call_runs : exec (translate call_task) 100 [] (pos 1 ∷ []) ≡ Done [] (negsuc 0 ∷ []) 21
-unfolding exec_from
+call_runs : exec (translate call_task) 100 [] (pos 1 ∷ []) ≡ Over (Halted ([], (negsuc 0 ∷ []))) 21
+unfolding exec_by
 call_runs = refl
 
 -- in x; out y; body { sequence max 12 { while max 10 (x) { y = y + 1; } while max 10 (x) { y = y / 3; } } }
@@ -114,8 +116,8 @@ series_instrs : (translate series_task).instrs
     ∷ slot Halt 0 ∷ []
 series_instrs = refl
 
-series_runs : exec (translate series_task) 422 [] (pos 0 ∷ []) ≡ Done [] (pos 0 ∷ []) 12
-unfolding exec_from
+series_runs : exec (translate series_task) 422 [] (pos 0 ∷ []) ≡ Over (Halted ([], (pos 0 ∷ []))) 12
+unfolding exec_by
 series_runs = refl
 
 -- in x; out y; body { if (x > 1) { y = 1; } else { y = 2; } if (x) { y = y; } }
@@ -140,8 +142,8 @@ both_instrs : (translate both_task).instrs
     ∷ slot (Store 1) 1 ∷ slot Halt 0 ∷ []
 both_instrs = refl
 
-both_breaks : exec (translate both_task) 100 [] (pos 0 ∷ []) ≡ Broke 17
-unfolding exec_from
+both_breaks : exec (translate both_task) 100 [] (pos 0 ∷ []) ≡ Over Broken 17
+unfolding exec_by
 both_breaks = refl
 
 -- in x; out y; body { var i; while max 3 (i < x) { scope M max 1 { mark M; y = y + 1; } i = i + 1; } }
@@ -152,8 +154,8 @@ again_task =
     (Then (Scoped 1 1 (Then (Count 1 1) (Then (Assign 1 (Bin two.Add (Var 1) (Num (pos 1)))) Nil)))
     (Then (Assign 2 (Bin two.Add (Var 2) (Num (pos 1)))) Nil))) Nil)
 
-again_runs : exec (translate again_task) 84 [] (pos 3 ∷ []) ≡ Done [] (pos 3 ∷ []) 84
-unfolding exec_from
+again_runs : exec (translate again_task) 84 [] (pos 3 ∷ []) ≡ Over (Halted ([], (pos 3 ∷ []))) 84
+unfolding exec_by
 again_runs = refl
 
 -- out y; state ring[4]; body { ring[y] = 5; y = ring[0]; }, the out cell at 0

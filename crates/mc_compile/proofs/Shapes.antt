@@ -7,9 +7,9 @@ use Rattle.mars_base.specs.declared.word.Role.{Role}
 use Rattle.mars_base.specs.declared.word.Role.TheVariants as role
 use Rattle.mc_tree.specs.declared.tree.Cell.{Cell}
 use Rattle.mc_tree.specs.Checked.{words_in, greatest_width, HasWidth, is_port, ports_in}
-use Rattle.word_machine.specs.Cells.{is_in, is_out, total_width}
-use Rattle.word_machine.specs.Typing.{WidthFits}
-use Rattle.word_machine.specs.declared.code.CellShape.{CellShape}
+use Rattle.word_code.specs.Cells.{is_in, is_out, total_width}
+use Rattle.word_code.specs.Typing.{WidthFits}
+use Rattle.word_code.specs.declared.code.CellShape.{CellShape}
 use Rattle.mc_compile.specs.Whole.{is_outside, shape_of, shapes_of}
 
 -- an in or out cell of the code

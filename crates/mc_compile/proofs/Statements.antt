@@ -9,11 +9,13 @@ use Rattle.mc_tree.specs.Counters.{Counted, CountedB, CountedL}
 use Rattle.mc_tree.specs.Meaning.{After, Done, Broken, Back, Answers, Fails, value_of, with_value, with_count, by_test, then_do, back_to, turns, series_turns, with_back, also, first_then, values_of, with_values, set_all, set_elem, does, all_do, series_do}
 use Rattle.mc_tree.specs.Sound.{IsCell, SoundE, Sound, SoundB, SoundL}
 use Rattle.mc_tree.proofs.Checked.{counted_up, counted_up_b, counted_up_l}
-use Rattle.word_machine.specs.Runs.{Broken as Broke, Run, breaks, goes}
-use Rattle.word_machine.specs.State.{State, at as state, Goes, found, gives}
-use Rattle.word_machine.specs.Step.{step}
-use Rattle.word_machine.specs.declared.code.Instr.TheVariants.{Store, StoreX, Jmp, Jz, CZero, CInc, Call}
-use Rattle.word_machine.specs.declared.code.Slot.{Slot}
+use Rattle.processor.specs.Ends.{Broken as Broke, Goes, found, gives}
+use Rattle.processor.specs.System.{ends, goes}
+use Rattle.word_code.specs.Runs.{Run}
+use Rattle.word_code.specs.State.{State, at as state}
+use Rattle.word_code.specs.Step.{step}
+use Rattle.word_code.specs.declared.code.Instr.TheVariants.{Store, StoreX, Jmp, Jz, CZero, CInc, Call}
+use Rattle.word_code.specs.declared.code.Slot.{Slot}
 use Rattle.mc_compile.specs.Translate.{slot}
 use Rattle.mc_compile.specs.Coded.{Has, CodedE, CodedA, CodedS, Coded, CodedB, CodedL}
 use Rattle.mc_compile.proofs.Counts.{scope_count, IsOwn, Keeps, KeepsFrom, counter_there, keeps_all, keeps_then, keeps_less, keeps_set, keeps_count, keeps_scope, keeps_none, keeps_call, up_below, up_full}
@@ -83,7 +85,7 @@ module _ (instrs : List Slot) (cells : List Cell) (n : ℕ) (fits : (p w : ℕ) 
       ∙ ap (λ o. gives o (λ v. Goes (at (p + 1) st ws (slice_set ks c v)))) e
 
   count_breaks : (p q c b : ℕ) (st ws : List ℤ) (ks : List ℕ) → Has instrs p (slot (CInc c b) 0) q → c < length ks → count_up (slice_index ks c) b ≡ None → Run instrs (at p st ws ks) Broke
-  count_breaks p q c b st ws ks h lt e = breaks (count_step p q c b st ws ks None h lt e)
+  count_breaks p q c b st ws ks h lt e = ends (count_step p q c b st ws ks None h lt e)
 
   count_goes : (p q c b w : ℕ) (st ws : List ℤ) (ks : List ℕ) → Has instrs p (slot (CInc c b) 0) q → c < length ks → count_up (slice_index ks c) b ≡ Some w → Leads instrs (at p st ws ks) (at q st ws (slice_set ks c w))
   count_goes p q c b w st ws ks h lt e =
@@ -217,7 +219,7 @@ module _ (instrs : List Slot) (cells : List Cell) (n : ℕ) (fits : (p w : ℕ) 
   -- an indexed assignment
   element_run : (p2 q a w sc lo : ℕ) (i v : ℤ) (st ws : List ℤ) (ks : List ℕ) (m : ℕ) (o : Option ℕ) → scope_count sc ks ≡ m → a + w ≤ n → AreWords n ws → IsWord v → Has instrs p2 (slot (StoreX a w) 2) q → place_of a w i ≡ o → Follows (at p2 (v ∷ i ∷ st) ws ks) sc lo ks q st (set_elem o ws v m)
   element_run p2 q a w sc lo i v st ws ks m None e inside are f h is =
-      breaks (one_step instrs rs p2 q _ (v ∷ i ∷ st) ws ks h ∙ ap (λ o. gives o (λ k. found (slice_get ws k) (λ _. Goes (at (p2 + 1) st (slice_set ws k v) ks)))) is)
+      ends (one_step instrs rs p2 q _ (v ∷ i ∷ st) ws ks h ∙ ap (λ o. gives o (λ k. found (slice_get ws k) (λ _. Goes (at (p2 + 1) st (slice_set ws k v) ks)))) is)
   element_run p2 q a w sc lo i v st ws ks m (Some x) e inside are f h is =
       let below : x < n = omega (arith, place_below a w i x is) in (
         ks,

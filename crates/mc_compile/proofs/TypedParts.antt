@@ -11,10 +11,10 @@ use Rattle.mc_tree.specs.declared.tree.Cell.{Cell}
 use Rattle.mc_tree.specs.Tree.{Ex, Num, Var, Elem, Un, Bin}
 use Rattle.mc_tree.specs.Height.{height, args_height}
 use Rattle.mc_tree.specs.Sound.{IsCell, SoundE}
-use Rattle.word_machine.specs.Action.{Action, Combines, Changes, action_of}
-use Rattle.word_machine.specs.Typing.{pops_of, pushes_of, height_at, height_after, routine_of, IsLast, FlowsOn, Lands, JumpFits, PlacesFit, CounterFits, CallFits, EndFits, IsTypedAt}
-use Rattle.word_machine.specs.declared.code.Code.{Code}
-use Rattle.word_machine.specs.declared.code.Slot.{Slot}
+use Rattle.word_code.specs.Action.{Action, Combines, Changes, action_of}
+use Rattle.word_code.specs.Typing.{pops_of, pushes_of, height_at, height_after, routine_of, IsLast, FlowsOn, Lands, JumpFits, PlacesFit, CounterFits, CallFits, EndFits, IsTypedAt}
+use Rattle.word_code.specs.declared.code.Code.{Code}
+use Rattle.word_code.specs.declared.code.Slot.{Slot}
 use Rattle.mc_compile.specs.Translate.{slot, unary_instr, between, joined}
 use Rattle.mc_compile.specs.Coded.{Has, HasAll, CodedE, CodedA, CodedS}
 use Rattle.mc_compile.proofs.Heights.{up_e, up_a, up_stores, height_here, begins_e, begins_a}

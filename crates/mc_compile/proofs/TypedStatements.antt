@@ -5,9 +5,9 @@ use Rattle.mc_tree.specs.Tree.{Ex, St, Assign, AssignAt, Invoke, When, Choice, L
 use Rattle.mc_tree.specs.Counters.{Counted, CountedB, CountedL}
 use Rattle.mc_tree.specs.Sound.{IsCell, SoundTest, Sound, SoundB, SoundL}
 use Rattle.mc_tree.proofs.Checked.{counted_up_b, counted_up_l}
-use Rattle.word_machine.specs.Typing.{height_at}
-use Rattle.word_machine.specs.declared.code.Code.{Code}
-use Rattle.word_machine.specs.declared.code.Instr.TheVariants.{Store, Jmp, Jz, CZero, CInc}
+use Rattle.word_code.specs.Typing.{height_at}
+use Rattle.word_code.specs.declared.code.Code.{Code}
+use Rattle.word_code.specs.declared.code.Instr.TheVariants.{Store, Jmp, Jz, CZero, CInc}
 use Rattle.mc_compile.specs.Translate.{slot}
 use Rattle.mc_compile.specs.Coded.{Has, CodedE, Coded, CodedB, CodedL}
 use Rattle.mc_compile.proofs.Heights.{up_e, up_a, up_stores, height_here, begins_e, begins_stores, up, up_b, up_l, begins_b, begins_l}

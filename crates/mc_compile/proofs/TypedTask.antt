@@ -11,10 +11,10 @@ use Rattle.mc_tree.specs.Counters.{CountedB}
 use Rattle.mc_tree.specs.Sound.{IsCell, SoundB, SoundTest}
 use Rattle.mc_tree.specs.Checked.{IsChecked}
 use Rattle.mc_tree.proofs.Checked.{checked_body, checked_fn, checked_cell, checked_counters, counted_up_b}
-use Rattle.word_machine.specs.Cells.{is_in, is_out, total_width}
-use Rattle.word_machine.specs.Typing.{routine_of, IsWhole, IsVerified, WidthFits}
-use Rattle.word_machine.specs.declared.code.CellShape.{CellShape}
-use Rattle.word_machine.specs.declared.code.Code.{Code}
+use Rattle.word_code.specs.Cells.{is_in, is_out, total_width}
+use Rattle.word_code.specs.Typing.{routine_of, IsWhole, IsVerified, WidthFits}
+use Rattle.word_code.specs.declared.code.CellShape.{CellShape}
+use Rattle.word_code.specs.declared.code.Code.{Code}
 use Rattle.mc_compile.specs.Whole.{code_len, translate}
 use Rattle.mc_compile.specs.Coded.{CodedF, CodedFs, CodedTask}
 use Rattle.mc_compile.proofs.Heights.{up_e, up_b, height_here, begins_e, begins_b}

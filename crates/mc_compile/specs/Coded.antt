@@ -4,9 +4,9 @@ use Rattle.std.specs.Prelude.{◌≡◌, ℕ, ◌+◌, List, [], ◌∷◌, leng
 use Rattle.mc_tree.specs.Tree.{Ex, Num, Var, Elem, Un, Bin, St, Assign, AssignAt, Invoke, When, Choice, Loop, Scoped, Count, Series, Bl, Nil, Then, Ls, NoLoop, OneLoop, Fn, Tree}
 use Rattle.mc_tree.specs.Checked.{words_in}
 use Rattle.mc_tree.specs.Meaning.{params_at}
-use Rattle.word_machine.specs.declared.code.Code.{Code}
-use Rattle.word_machine.specs.declared.code.Instr.TheVariants.{Push, Load, Store, LoadX, StoreX, Jmp, Jz, CZero, CInc, Call, Ret, Halt}
-use Rattle.word_machine.specs.declared.code.Slot.{Slot}
+use Rattle.word_code.specs.declared.code.Code.{Code}
+use Rattle.word_code.specs.declared.code.Instr.TheVariants.{Push, Load, Store, LoadX, StoreX, Jmp, Jz, CZero, CInc, Call, Ret, Halt}
+use Rattle.word_code.specs.declared.code.Slot.{Slot}
 use Rattle.mc_compile.specs.Translate.{slot, unary_instr, between, joined}
 use Rattle.mc_compile.specs.Whole.{shapes_of}
 

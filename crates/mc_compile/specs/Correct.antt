@@ -4,8 +4,8 @@ use Rattle.std.specs.Prelude.{◌≡◌, ℕ, ℤ, List, length, All, FitsSigned
 use Rattle.std.specs.Int.{w32}
 use Rattle.mc_tree.specs.Tree.{Tree}
 use Rattle.mc_tree.specs.Instance.{Outcome, Gives, Breaks as Breaking, is_in, is_state, width_of, instance_of}
-use Rattle.word_machine.specs.Execution.{Halts, Breaks}
-use Rattle.word_machine.specs.declared.code.Code.{Code}
+use Rattle.word_code.specs.Execution.{Halts, Breaks}
+use Rattle.word_code.specs.declared.code.Code.{Code}
 
 -- a state and in words of the task: as many words as its cells have
 pub record AreGiven (t : Tree) (state ins : List ℤ) : Type 0 where

@@ -6,9 +6,9 @@ use Rattle.mars_base.specs.declared.word.BinOp.TheVariants as two
 use Rattle.mars_base.specs.declared.word.UnOp.{UnOp}
 use Rattle.mars_base.specs.declared.word.UnOp.TheVariants as one
 use Rattle.mc_tree.specs.Tree.{Ex, Num, Var, Elem, Un, Bin, St, Assign, AssignAt, Invoke, When, Choice, Loop, Scoped, Count, Series, Bl, Nil, Then, Ls, NoLoop, OneLoop}
-use Rattle.word_machine.specs.declared.code.Instr.{Instr}
-use Rattle.word_machine.specs.declared.code.Instr.TheVariants.{Push, Load, Store, LoadX, StoreX, Add, Sub, Mul, Div, Rem, And, Or, Xor, Shl, Shr, Eq, Lt, Le, Neg, Not, Inv, Jmp, Jz, CZero, CInc, Call}
-use Rattle.word_machine.specs.declared.code.Slot.{Slot}
+use Rattle.word_code.specs.declared.code.Instr.{Instr}
+use Rattle.word_code.specs.declared.code.Instr.TheVariants.{Push, Load, Store, LoadX, StoreX, Add, Sub, Mul, Div, Rem, And, Or, Xor, Shl, Shr, Eq, Lt, Le, Neg, Not, Inv, Jmp, Jz, CZero, CInc, Call}
+use Rattle.word_code.specs.declared.code.Slot.{Slot}
 
 -- an instruction, and how many operands are on the stack before it
 abbrev pub slot : Instr → ℕ → Slot

@@ -6,10 +6,10 @@ use Rattle.mc_tree.specs.declared.tree.Cell.{Cell}
 use Rattle.mc_tree.specs.Tree.{Fn, Tree}
 use Rattle.mc_tree.specs.Checked.{words_in}
 use Rattle.mc_tree.specs.Meaning.{params_at}
-use Rattle.word_machine.specs.declared.code.CellShape.{CellShape}
-use Rattle.word_machine.specs.declared.code.Code.{Code}
-use Rattle.word_machine.specs.declared.code.Instr.TheVariants.{Ret, Halt}
-use Rattle.word_machine.specs.declared.code.Slot.{Slot}
+use Rattle.word_code.specs.declared.code.CellShape.{CellShape}
+use Rattle.word_code.specs.declared.code.Code.{Code}
+use Rattle.word_code.specs.declared.code.Instr.TheVariants.{Ret, Halt}
+use Rattle.word_code.specs.declared.code.Slot.{Slot}
 use Rattle.mc_compile.specs.Translate.{slot, ex_len, ex_code, bl_len, bl_code}
 
 -- how many instructions a function takes

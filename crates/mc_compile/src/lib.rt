@@ -9,7 +9,7 @@ ghost use Rattle.mc_compile.specs.Whole.{translate, code_len};
 ghost use Rattle.mc_tree.specs.Checked.{IsChecked};
 ghost use Rattle.mc_tree.specs.Tree.{Ex, Tree};
 ghost use Rattle.std.specs.Prelude.{◌≡◌, ◌≤◌, ℕ, length};
-ghost use Rattle.word_machine.specs.Typing.{IsVerified};
+ghost use Rattle.word_code.specs.Typing.{IsVerified};
 
 /// What holds of the translation of every task. Its parts stand one after another, and each jump goes to where
 /// its part begins or ends. Its length is known beforehand. From each state and each in words the code of a

@@ -10,7 +10,8 @@ use Rattle.lines.proofs.Gather.{nothing_gathered, front_of_gathered, front_of_fr
 use Rattle.mars_base.specs.declared.outside.SinkFault.{SinkFault}
 use Rattle.mc_tree.specs.Instance.{Outcome, Gives, Breaks, instance_of}
 use Rattle.mc_tree.specs.Tree.{Tree}
-use Rattle.word_machine.specs.Execution.{Ran, cycles_in}
+use Rattle.processor.specs.Ends.{cycles_in}
+use Rattle.processor.specs.Results.{Ran}
 use Rattle.task_run.specs.Closing.{Closed, Failed, Closes}
 use Rattle.task_run.specs.Progress.{RunAnswers, RanTo, RanInto}
 use Rattle.task_run.specs.Text.{Ending, Finished, BadLine, Broken, task_text, text_from, ending_of, ending_from, ends_after, after, out_line, broken_line, task_line, first_state}

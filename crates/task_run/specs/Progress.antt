@@ -4,7 +4,7 @@ use Rattle.std.specs.Io.KnownBytes.{append_known}
 use Rattle.lines.specs.Gathered.{HasFront}
 use Rattle.lines.specs.Lines.{Lines}
 use Rattle.mc_tree.specs.Tree.{Tree}
-use Rattle.word_machine.specs.Execution.{Ran}
+use Rattle.processor.specs.Results.{Ran}
 use Rattle.task_run.specs.Text.{Ending, Finished, BadLine, Broken, task_text, ending_of}
 use Rattle.task_run.specs.declared.fault.RunFault.{RunFault}
 use Rattle.task_run.specs.declared.fault.RunFault.TheVariants as fault

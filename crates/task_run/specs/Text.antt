@@ -5,7 +5,8 @@ use Rattle.std.specs.Fmt.{signed_decimal}
 use Rattle.lines.specs.Lines.{Lines, End, Bad, Line}
 use Rattle.mc_tree.specs.Instance.{Outcome, Gives, Breaks, is_state, width_of, instance_of}
 use Rattle.mc_tree.specs.Tree.{Tree}
-use Rattle.word_machine.specs.Execution.{Ran, cycles_in}
+use Rattle.processor.specs.Ends.{cycles_in}
+use Rattle.processor.specs.Results.{Ran}
 
 -- words with single spaces between them
 abbrev pub tail_text : List ℤ → List ℕ

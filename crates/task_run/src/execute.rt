@@ -3,10 +3,10 @@ ghost use Rattle.std.specs.Prelude.{◌≡◌, ◌<◌, ◌≤◌, ◌^◌, leng
 ghost use Rattle.mc_tree.specs.Instance.{Gives, Breaks, is_in, is_out, is_state, width_of, instance_of};
 ghost use Rattle.mc_tree.specs.Plain.{plain_task};
 ghost use Rattle.task_run.specs.Follows.{RunsAs};
-ghost use Rattle.word_machine.specs.Execution.{cycles_in};
+ghost use Rattle.processor.specs.Ends.{cycles_in};
 
 use mc_tree::Task;
-use word_machine::{Cpu, Turn};
+use processor::{Cpu, Turn};
 
 /// Runs one instance under the bound: its outputs and its new state are put in their places and its cycles
 /// answered, or None exactly where it breaks, with the state as it was.

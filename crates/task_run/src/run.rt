@@ -20,7 +20,7 @@ use lines::{LineBuf, LineFault, LineReader, Next};
 use mars_base::{Sink, Source};
 use mc_tree::Task;
 use std::alloc::Global;
-use word_machine::Cpu;
+use processor::Cpu;
 
 /// Runs a task over the lines of an input, one at a time, and writes its text. `maxt` is the bound that
 /// each execution keeps and that the last line prints. Each answer goes out before more input is asked

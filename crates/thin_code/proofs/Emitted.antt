@@ -11,10 +11,10 @@ use Rattle.mc_tree.specs.declared.tree.Stmt.TheVariants.{Set, rolls-Set}
 use Rattle.mc_tree.specs.Plain.{plain_expr, plain_stmt, plain_list, st_of}
 use Rattle.mc_tree.specs.Tree.{Ex, Bin, St, Assign, Then}
 use Rattle.mc_tree.proofs.Plain.{plain_binary}
-use Rattle.word_machine.specs.Cost.{cost_of}
-use Rattle.word_machine.specs.declared.code.Instr.{Instr}
-use Rattle.word_machine.specs.declared.code.Instr.TheVariants.{Push, Load, Store, LoadX, StoreX, Add, Sub, Mul, Div, Rem, And, Or, Xor, Shl, Shr, Eq, Lt, Le, Neg, Not, Inv, Jmp, Jz, CZero, CInc, Call, Ret, Halt}
-use Rattle.word_machine.specs.declared.code.Slot.{Slot}
+use Rattle.word_code.specs.Cost.{cost_of}
+use Rattle.word_code.specs.declared.code.Instr.{Instr}
+use Rattle.word_code.specs.declared.code.Instr.TheVariants.{Push, Load, Store, LoadX, StoreX, Add, Sub, Mul, Div, Rem, And, Or, Xor, Shl, Shr, Eq, Lt, Le, Neg, Not, Inv, Jmp, Jz, CZero, CInc, Call, Ret, Halt}
+use Rattle.word_code.specs.declared.code.Slot.{Slot}
 use Rattle.mc_compile.specs.Cost.{costs_of}
 use Rattle.mc_compile.specs.Translate.{slot, between, joined, ex_code}
 use Rattle.thin_reader.specs.Sizes.{operand_words}

@@ -13,15 +13,16 @@ use Rattle.mc_compile.specs.Cost.{costs_of, ex_cost}
 use Rattle.mc_compile.specs.Translate.{slot, between, joined, ex_code}
 use Rattle.mc_compile.proofs.Costs.{costs_append, ex_costs}
 use Rattle.thin_reader.specs.Thin.{IsThinEx, IsThinSt, AreThin}
-use Rattle.word_machine.specs.Action.{Combines, action_of}
-use Rattle.word_machine.specs.Cost.{cost_of}
-use Rattle.word_machine.specs.Execution.{exec_from}
-use Rattle.word_machine.specs.State.{State, at, Goes, found, gives}
-use Rattle.word_machine.specs.Step.{act, instr_at, does as does_instr, step, cost_at, cost_or}
-use Rattle.word_machine.specs.declared.code.Instr.{Instr}
-use Rattle.word_machine.specs.declared.code.Instr.TheVariants.{Push, Load, Store}
-use Rattle.word_machine.specs.declared.code.Slot.{Slot}
-use Rattle.word_machine.proofs.Exec.{exec_goes}
+use Rattle.word_code.specs.Action.{Combines, action_of}
+use Rattle.word_code.specs.Cost.{cost_of}
+use Rattle.processor.specs.Ends.{Goes, found, gives}
+use Rattle.word_code.specs.Execution.{exec_from}
+use Rattle.word_code.specs.State.{State, at}
+use Rattle.word_code.specs.Step.{act, instr_at, does as does_instr, step, cost_at, cost_or}
+use Rattle.word_code.specs.declared.code.Instr.{Instr}
+use Rattle.word_code.specs.declared.code.Instr.TheVariants.{Push, Load, Store}
+use Rattle.word_code.specs.declared.code.Slot.{Slot}
+use Rattle.word_code.proofs.Exec.{exec_goes}
 use Rattle.thin_code.specs.Straight.{assignment_code, assignments_code}
 use Rattle.thin_code.proofs.Operators.{one_instr}
 

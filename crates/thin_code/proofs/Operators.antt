@@ -7,10 +7,10 @@ use Rattle.mc_compile.specs.Cost.{operator_cost}
 use Rattle.mc_compile.specs.Translate.{slot, between, joined}
 use Rattle.thin_reader.specs.Sizes.{operand_words}
 use Rattle.thin_reader.specs.Thin.{IsThinOperator}
-use Rattle.word_machine.specs.Action.{Combines, action_of}
-use Rattle.word_machine.specs.Cost.{cost_of}
-use Rattle.word_machine.specs.declared.code.Instr.{Instr}
-use Rattle.word_machine.specs.declared.code.Instr.TheVariants.{Add, Sub, Mul}
+use Rattle.word_code.specs.Action.{Combines, action_of}
+use Rattle.word_code.specs.Cost.{cost_of}
+use Rattle.word_code.specs.declared.code.Instr.{Instr}
+use Rattle.word_code.specs.declared.code.Instr.TheVariants.{Add, Sub, Mul}
 
 pub record IsOneInstr (op : BinOp) : Type 0 where
   pub instr : Instr

@@ -9,9 +9,9 @@ use Rattle.mc_tree.specs.Instance as tree
 use Rattle.mc_compile.specs.Whole.{is_outside, shape_of, shapes_of}
 use Rattle.mc_tree.specs.Checked.{words_in}
 use Rattle.thin_reader.specs.Thin.{IsPort}
-use Rattle.word_machine.specs.Cells as machine
-use Rattle.word_machine.specs.Typing.{WidthFits}
-use Rattle.word_machine.specs.declared.code.CellShape.{CellShape}
+use Rattle.word_code.specs.Cells as machine
+use Rattle.word_code.specs.Typing.{WidthFits}
+use Rattle.word_code.specs.declared.code.CellShape.{CellShape}
 
 -- the cells are ports of one word
 abbrev pub ArePorts : List Cell → Type 0

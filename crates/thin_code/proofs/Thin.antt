@@ -15,18 +15,20 @@ use Rattle.mc_compile.proofs.Lengths.{ex_length}
 use Rattle.mc_compile.proofs.Placed.{placed_task}
 use Rattle.thin_reader.specs.Sizes.{nodes, assignment_length, assignments_length}
 use Rattle.thin_reader.specs.Thin.{IsThin, IsThinEx, IsThinSt, AreThin}
-use Rattle.word_machine.specs.Cells as machine
-use Rattle.word_machine.specs.Execution.{Ran, exec, exec_from, Done, ran_of}
-use Rattle.word_machine.specs.State.{at, Ends, found}
-use Rattle.word_machine.specs.Step.{instr_at, does, step, cost_at, cost_or}
+use Rattle.word_code.specs.Cells as machine
+use Rattle.processor.specs.Ends.{Over, Halted, Ends, found, limited_map}
+use Rattle.processor.specs.Results.{Ran}
+use Rattle.word_code.specs.Execution.{exec, exec_from, results_of}
+use Rattle.word_code.specs.State.{at}
+use Rattle.word_code.specs.Step.{instr_at, does, step, cost_at, cost_or}
 use Rattle.std.specs.Option.{option_map}
 use Rattle.std.proofs.lemmas.Option.{slice_get_within}
-use Rattle.word_machine.specs.Typing.{IsVerified, WidthFits}
-use Rattle.word_machine.specs.declared.code.CellShape.{CellShape}
-use Rattle.word_machine.specs.declared.code.Code.{Code}
-use Rattle.word_machine.specs.declared.code.Instr.TheVariants.{Store, Halt}
-use Rattle.word_machine.specs.declared.code.Slot.{Slot}
-use Rattle.word_machine.proofs.Exec.{exec_ends}
+use Rattle.word_code.specs.Typing.{IsVerified, WidthFits}
+use Rattle.word_code.specs.declared.code.CellShape.{CellShape}
+use Rattle.word_code.specs.declared.code.Code.{Code}
+use Rattle.word_code.specs.declared.code.Instr.TheVariants.{Store, Halt}
+use Rattle.word_code.specs.declared.code.Slot.{Slot}
+use Rattle.word_code.proofs.Exec.{exec_ends}
 use Rattle.thin_code.specs.Exact.{IsDoneIn, AlwaysTakes}
 use Rattle.thin_code.specs.Follows.{Matches, Follows}
 use Rattle.thin_code.specs.Straight.{assignment_code, assignments_code}
@@ -179,7 +181,7 @@ start_words t thin state ins =
     ∙ append-nil (machine.cells_at_start (translate t).cells state ins)
     ∙ ap (λ l. machine.cells_at_start l state ins) cells ∙ start_same t.cells state ins
 
-done_in : (cycles : ℕ) (o : tree.Outcome) (r : Ran) (state outs : List ℤ) → o ≡ tree.Gives state outs → r ≡ Done state outs cycles → IsDoneIn cycles o r
+done_in : (cycles : ℕ) (o : tree.Outcome) (r : Ran) (state outs : List ℤ) → o ≡ tree.Gives state outs → r ≡ Over (Halted (state, outs)) cycles → IsDoneIn cycles o r
 done_in cycles o r state outs eo er = subst (λ (x : tree.Outcome). IsDoneIn cycles x r) (sym eo) er
 
 -- the code always takes the sum of its costs, and does what the task means
@@ -199,17 +201,17 @@ thin_exact t thin state ins states_are ins_are limit fits =
     let last = at stands.halt [] work.words ks [] in
     let halt_is : instr_at code.instrs stands.halt ≡ Some Halt = ap (option_map (λ (x : Slot). x.instr)) stands.stop.here in
     let halt_cost : cost_at code.instrs stands.halt ≡ 1 = ap cost_or halt_is in
-    let ended : step code.instrs last ≡ Ends = ap (λ o. found o (λ i. does i last)) halt_is in
+    let ended : step code.instrs last ≡ Ends (Halted last.words) = ap (λ o. found o (λ i. does i last)) halt_is in
     let begins : exec_from code.instrs limit (machine.start_of code state ins) 0 ≡ exec_from code.instrs limit (at 0 [] ws ks []) 0 = ap (λ l. exec_from code.instrs limit (at 0 [] l ks []) 0) (start_words t thin state ins) in
-    let run_is = begins ∙ work.leads limit 0 (omega (arith, sum)) ∙ exec_ends code.instrs limit last (0 + n) (omega (arith, sum, halt_cost)) ended in
+    let run_is = begins ∙ work.leads limit 0 (omega (arith, sum)) ∙ exec_ends code.instrs limit last (0 + n) (Halted last.words) (omega (arith, sum, halt_cost)) ended in
     let cycles : 0 + n + cost_at code.instrs stands.halt ≡ costs_of code.instrs = omega (arith, sum, halt_cost) in
     let left = ap (λ l. machine.cell_words machine.is_state l work.words) (thin_cells t thin) ∙ state_same t.cells work.words in
     let outs = ap (λ l. machine.cell_words machine.is_out l work.words) (thin_cells t thin) ∙ outs_same t.cells work.words in
     done_in (costs_of code.instrs) (tree.instance_of t state ins) (exec code limit state ins) (tree.words_of tree.is_state t.cells work.words) (tree.words_of tree.is_out t.cells work.words)
     (ap (tree.ended t.cells) work.does_so)
-    (ap (ran_of code) run_is ∙ ap (λ l. Done l (machine.cell_words machine.is_out code.cells work.words) (0 + n + cost_at code.instrs stands.halt)) left
-    ∙ ap (λ l. Done (tree.words_of tree.is_state t.cells work.words) l (0 + n + cost_at code.instrs stands.halt)) outs
-    ∙ ap (λ k. Done (tree.words_of tree.is_state t.cells work.words) (tree.words_of tree.is_out t.cells work.words) k) cycles)
+    (ap (limited_map (results_of code)) run_is ∙ ap (λ l. Over (Halted (l, (machine.cell_words machine.is_out code.cells work.words))) (0 + n + cost_at code.instrs stands.halt)) left
+    ∙ ap (λ l. Over (Halted (tree.words_of tree.is_state t.cells work.words, l)) (0 + n + cost_at code.instrs stands.halt)) outs
+    ∙ ap (λ k. Over (Halted (tree.words_of tree.is_state t.cells work.words, tree.words_of tree.is_out t.cells work.words)) k) cycles)
 
 -- what is done in so many cycles does what the instance does within them
 done_matches : (cycles : ℕ) (o : tree.Outcome) (r : Ran) → IsDoneIn cycles o r → Matches o r cycles

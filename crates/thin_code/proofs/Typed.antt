@@ -10,11 +10,11 @@ use Rattle.mc_compile.specs.Coded.{Has, CodedE, Coded, CodedB}
 use Rattle.mc_compile.specs.Translate.{slot, between, joined}
 use Rattle.thin_reader.specs.Sizes.{operand_words}
 use Rattle.thin_reader.specs.Thin.{IsThinEx, IsThinSt, AreThin}
-use Rattle.word_machine.specs.Action.{Action, Pushes, Loads, Stores, Combines, action_of}
-use Rattle.word_machine.specs.Typing.{IsTypedAt, IsLast, JumpFits, PlacesFit, CounterFits, CallFits, EndFits, height_at, routine_of, pops_of, pushes_of}
-use Rattle.word_machine.specs.declared.code.Code.{Code}
-use Rattle.word_machine.specs.declared.code.Instr.TheVariants.{Push, Load, Store, Halt}
-use Rattle.word_machine.specs.declared.code.Slot.{Slot}
+use Rattle.word_code.specs.Action.{Action, Pushes, Loads, Stores, Combines, action_of}
+use Rattle.word_code.specs.Typing.{IsTypedAt, IsLast, JumpFits, PlacesFit, CounterFits, CallFits, EndFits, height_at, routine_of, pops_of, pushes_of}
+use Rattle.word_code.specs.declared.code.Code.{Code}
+use Rattle.word_code.specs.declared.code.Instr.TheVariants.{Push, Load, Store, Halt}
+use Rattle.word_code.specs.declared.code.Slot.{Slot}
 use Rattle.thin_code.proofs.Leads.{alone, none_there}
 use Rattle.thin_code.proofs.Operators.{one_instr, words_some}
 

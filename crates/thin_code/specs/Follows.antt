@@ -2,17 +2,19 @@
 use Rattle.std.specs.Prelude.{◌≡◌, ℕ, ◌≤◌, ℤ, List, length}
 use Rattle.mc_tree.specs.Instance.{Outcome, Gives, Breaks, is_in, is_state, width_of, instance_of}
 use Rattle.mc_tree.specs.Tree.{Tree}
-use Rattle.word_machine.specs.Execution.{Ran, Done, Broke, Cut, exec}
-use Rattle.word_machine.specs.declared.code.Code.{Code}
+use Rattle.processor.specs.Ends.{Over, Halted, Broken, Cut}
+use Rattle.processor.specs.Results.{Ran}
+use Rattle.word_code.specs.Execution.{exec}
+use Rattle.word_code.specs.declared.code.Code.{Code}
 
 -- An instance that gives a state and outputs is done with both within the limit. One that breaks is broken, or
 -- cut before it breaks; it is never done.
 abbrev pub Matches : Outcome → Ran → ℕ → Type 0
-Matches (Gives state outs) (Done left given cycles) maxt = (left ≡ state) × (given ≡ outs) × (cycles ≤ maxt)
-Matches (Gives state outs) (Broke cycles) maxt = ⊥
+Matches (Gives state outs) (Over (Halted (left, given)) cycles) maxt = (left ≡ state) × (given ≡ outs) × (cycles ≤ maxt)
+Matches (Gives state outs) (Over Broken cycles) maxt = ⊥
 Matches (Gives state outs) (Cut cycles) maxt = ⊥
-Matches Breaks (Done left given cycles) maxt = ⊥
-Matches Breaks (Broke cycles) maxt = Unit {0}
+Matches Breaks (Over (Halted (left, given)) cycles) maxt = ⊥
+Matches Breaks (Over Broken cycles) maxt = Unit {0}
 Matches Breaks (Cut cycles) maxt = Unit {0}
 
 -- from each state and all inputs of the tree's widths, the code under the limit does what the tree's instance does

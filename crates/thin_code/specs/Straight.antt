@@ -1,8 +1,8 @@
 -- The code of assignments. It has no jump, and so is the same wherever it stands. This project's own.
 use Rattle.std.specs.Prelude.{List, [], ◌∷◌, ◌++◌}
 use Rattle.mc_tree.specs.Tree.{St, Assign, AssignAt, Invoke, When, Choice, Loop, Scoped, Count, Series, Bl, Nil, Then}
-use Rattle.word_machine.specs.declared.code.Instr.TheVariants.{Store}
-use Rattle.word_machine.specs.declared.code.Slot.{Slot}
+use Rattle.word_code.specs.declared.code.Instr.TheVariants.{Store}
+use Rattle.word_code.specs.declared.code.Slot.{Slot}
 use Rattle.mc_compile.specs.Translate.{slot, ex_code}
 
 -- a thin body has no other statement

@@ -2,8 +2,8 @@
 use Rattle.std.specs.Prelude.{◌≡◌, ◌+◌, ◌≤◌}
 use Rattle.mc_tree.specs.Instance.{is_in, is_out, is_state, width_of}
 use Rattle.mc_tree.specs.Tree.{Tree}
-use Rattle.word_machine.specs.Cells as machine
-use Rattle.word_machine.specs.declared.code.Code.{Code}
+use Rattle.word_code.specs.Cells as machine
+use Rattle.word_code.specs.declared.code.Code.{Code}
 
 -- the code takes and gives as many words as the tree: no state, and at most 16 in and out words together
 pub record HasWidths (t : Tree) (code : Code) : Type 0 where

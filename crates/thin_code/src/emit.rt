@@ -11,7 +11,7 @@ use mars_base::{BinOp, Memory};
 use mc_tree::{Cell, Expr, Stmt};
 use sqlite_items::Items;
 use std::alloc::Global;
-use word_machine::{CellShape, Instr, Slot};
+use word_code::{CellShape, Instr, Slot};
 
 // One more instruction, with the number of operands before it.
 fn put(code: &mut Items<Slot>, instr: Instr, height: u8) -> Result<(), Memory>

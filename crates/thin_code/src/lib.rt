@@ -20,7 +20,7 @@ use mars_base::Memory;
 use mc_tree::Task;
 use sqlite_items::Items;
 use std::alloc::Global;
-use word_machine::{Code, Verified, cost};
+use word_code::{Code, Verified, cost};
 
 /// What holds of the code of every thin task: it meets the typing rules, no instance of the task breaks, and
 /// under each limit from the sum of its costs on the code does what the task means, in exactly that sum of

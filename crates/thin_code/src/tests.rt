@@ -10,7 +10,7 @@ use mars_base::{BinOp, Role, Text};
 use mc_tree::{Cell, Expr, Stmt};
 use sqlite_items::Boxed;
 use std::test::Fail;
-use word_machine::{CellShape, Instr, Slot};
+use word_code::{CellShape, Instr, Slot};
 
 // A port of one word.
 fn port(alloc: Global, role: Role, place: u16) -> Cell

@@ -1,25 +1,26 @@
 -- Where a machine stands after a load, a step and an advance.
 use Rattle.std.proofs.Common.{◌≡◌, ◌≢◌, ℕ, ◌+◌, ◌<◌, ◌≤◌, max, List, length, ℤ, Some, refl, sym, ap, ◌∙◌, subst, arith, inl, inr}
 use Rattle.std.specs.Prelude.{slice_get}
-use Rattle.word_machine.specs.Action.{action_of}
-use Rattle.word_machine.specs.Cells.{start_of, width_of, is_in, is_state}
-use Rattle.word_machine.specs.Cost.{cost_of}
-use Rattle.word_machine.specs.Course.{IsOnCourse}
-use Rattle.word_machine.specs.Execution.{Stopped, Failed, Short, exec_from}
-use Rattle.word_machine.specs.Laws.{step_costs}
+use Rattle.word_code.specs.Action.{action_of}
+use Rattle.word_code.specs.Cells.{start_of, width_of, is_in, is_state}
+use Rattle.word_code.specs.Cost.{cost_of}
+use Rattle.word_code.specs.Course.{IsOnCourse}
+use Rattle.processor.specs.Ends.{Halted, Broken, Goes, Ends, Over, Cut}
+use Rattle.word_code.specs.Execution.{exec_from}
 use Rattle.word_machine.specs.Machine.{standing, CanStep, GoesOn, StopsShort, StopsOver, Stepped, IsRunning, IsFinished, Runs}
-use Rattle.word_machine.specs.Ready.{state_of, act_on}
-use Rattle.word_machine.specs.State.{State, Goes, Ends, Fails}
-use Rattle.word_machine.specs.Step.{cost_at, cost_or, step}
-use Rattle.word_machine.specs.Typing.{IsVerified}
-use Rattle.word_machine.specs.declared.code.Code.{Code}
-use Rattle.word_machine.specs.declared.code.Slot.{Slot}
-use Rattle.word_machine.specs.declared.cpu.Turn.{Turn}
-use Rattle.word_machine.specs.declared.cpu.Turn.TheVariants as turn
+use Rattle.word_code.specs.Ready.{act_on}
+use Rattle.word_machine.specs.Acts.{state_of}
+use Rattle.word_code.specs.State.{State}
+use Rattle.word_code.specs.Step.{cost_at, cost_or, step}
+use Rattle.word_code.specs.Typing.{IsVerified}
+use Rattle.word_code.specs.declared.code.Code.{Code}
+use Rattle.word_code.specs.declared.code.Slot.{Slot}
+use Rattle.processor.specs.declared.cpu.Turn.{Turn}
+use Rattle.processor.specs.declared.cpu.Turn.TheVariants as turn
 use Rattle.word_machine.specs.declared.machine.Machine.{Machine}
 use Rattle.word_machine.specs.declared.registers.Registers.{Registers}
-use Rattle.word_machine.proofs.Course.{course_start, course_step, instr_here, step_is}
-use Rattle.word_machine.proofs.Exec.{exec_short, exec_goes, exec_ends, exec_fails}
+use Rattle.word_code.proofs.Course.{course_start, course_step, instr_here, step_is}
+use Rattle.word_code.proofs.Exec.{step_costs, exec_short, exec_goes, exec_ends}
 
 -- the next step costs what its instruction does
 cost_here : (code : Code) (k : ℕ) (slot : Slot) → slice_get code.instrs k ≡ Some slot → cost_at code.instrs k ≡ cost_of slot.instr
@@ -60,24 +61,24 @@ module _ (code : Code) (limit : ℕ) (m : Machine) (slot : Slot) (cost : ℕ) (h
       }
 
   -- the instruction ended the execution
-  pub stops_halted : CanStep code m → m.cycles + cost ≤ limit → (new : Registers) → act_on (action_of slot.instr) (standing m) ≡ Ends → new ≡ m.registers
+  pub stops_halted : CanStep code m → m.cycles + cost ≤ limit → (new : Registers) → act_on (action_of slot.instr) (standing m) ≡ Ends (Halted m.registers.words) → new ≡ m.registers
       → StopsOver code limit m (record m { registers = new; cycles = m.cycles + cost }) turn.Halted
   stops_halted able fits new e same = record {
     places = ap (λ (r : Registers). length r.words) same ∙ able.course.places;
     done = λ top le.
-        exec_ends code.instrs top (standing m) m.cycles (omega (arith, same_cost)) (step_is code (standing m) slot here ∙ e)
-        ∙ ap (λ n. Stopped m.registers.words (m.cycles + n)) same_cost
-        ∙ ap (λ (r : Registers). Stopped r.words (m.cycles + cost)) (sym same);
+        exec_ends code.instrs top (standing m) m.cycles (Halted m.registers.words) (omega (arith, same_cost)) (step_is code (standing m) slot here ∙ e)
+        ∙ ap (λ n. Over (Halted m.registers.words) (m.cycles + n)) same_cost
+        ∙ ap (λ (r : Registers). Over (Halted r.words) (m.cycles + cost)) (sym same);
   }
 
   -- the instruction broke the execution
-  pub stops_broken : CanStep code m → m.cycles + cost ≤ limit → (new : Registers) → act_on (action_of slot.instr) (standing m) ≡ Fails
+  pub stops_broken : CanStep code m → m.cycles + cost ≤ limit → (new : Registers) → act_on (action_of slot.instr) (standing m) ≡ Ends Broken
       → length new.words ≡ length m.registers.words → StopsOver code limit m (record m { registers = new; cycles = m.cycles + cost }) turn.Broken
   stops_broken able fits new e same = record {
     places = same ∙ able.course.places;
     done = λ top le.
-        exec_fails code.instrs top (standing m) m.cycles (omega (arith, same_cost)) (step_is code (standing m) slot here ∙ e)
-        ∙ ap (λ n. Failed (m.cycles + n)) same_cost;
+        exec_ends code.instrs top (standing m) m.cycles Broken (omega (arith, same_cost)) (step_is code (standing m) slot here ∙ e)
+        ∙ ap (λ n. Over Broken (m.cycles + n)) same_cost;
   }
 
 -- the machine after its last step under a limit
@@ -93,7 +94,7 @@ advanced code state ins low limit old mid new turn.Short (inl r) going up able b
       below = subst (λ (m : Machine). m.cycles ≤ limit) (sym s.unchanged) below;
       kept = refl;
       same = λ top le. r.same top (omega (arith, r.kept)) ∙ same top le ∙ ap (λ (m : Machine). exec_from code.instrs top (standing m) m.cycles) (sym s.unchanged);
-      short = ap (λ (m : Machine). exec_from code.instrs limit (standing m) m.cycles) s.unchanged ∙ s.short ∙ ap (λ (m : Machine). Short m.cycles) (sym s.unchanged);
+      short = ap (λ (m : Machine). exec_from code.instrs limit (standing m) m.cycles) s.unchanged ∙ s.short ∙ ap (λ (m : Machine). Cut m.cycles) (sym s.unchanged);
     }))
 advanced code state ins low limit old mid new turn.Halted (inl r) going up able below same s =
     let high : max low limit ≡ limit = omega (arith, r.kept) in

@@ -1,14 +1,2 @@
-pub mod Action
-pub mod Cells
-pub mod Cost
-pub mod Course
-pub mod Execution
-pub mod Free
-pub mod Laws
+pub mod Acts
 pub mod Machine
-pub mod Ready
-pub mod Runs
-pub mod State
-pub mod Step
-pub mod Tied
-pub mod Typing

@@ -1,13 +1,14 @@
 -- Where a machine stands in an execution. This project's own.
 use Rattle.std.specs.Prelude.{◌≡◌, ◌≢◌, ◌⊎◌, ℕ, ◌<◌, ◌≤◌, ℤ, List, length, Option, Some, None}
-use Rattle.word_machine.specs.Cells.{start_of}
-use Rattle.word_machine.specs.Course.{IsOnCourse}
-use Rattle.word_machine.specs.Execution.{End, Stopped, Failed, Short, exec_from}
-use Rattle.word_machine.specs.Ready.{state_of}
-use Rattle.word_machine.specs.State.{State}
-use Rattle.word_machine.specs.declared.code.Code.{Code}
-use Rattle.word_machine.specs.declared.cpu.Turn.{Turn}
-use Rattle.word_machine.specs.declared.cpu.Turn.TheVariants as turn
+use Rattle.word_code.specs.Cells.{start_of}
+use Rattle.word_code.specs.Course.{IsOnCourse}
+use Rattle.processor.specs.Ends.{Halted, Broken, Limited, Over, Cut}
+use Rattle.word_code.specs.Execution.{exec_from}
+use Rattle.word_machine.specs.Acts.{state_of}
+use Rattle.word_code.specs.State.{State}
+use Rattle.word_code.specs.declared.code.Code.{Code}
+use Rattle.processor.specs.declared.cpu.Turn.{Turn}
+use Rattle.processor.specs.declared.cpu.Turn.TheVariants as turn
 use Rattle.word_machine.specs.declared.machine.Machine.{Machine}
 
 abbrev pub standing : Machine → State
@@ -19,10 +20,10 @@ pub record CanStep (code : Code) (m : Machine) : Type 0 where
   pub going : m.turn ≡ turn.Short
 
 -- what the execution has come to, by the machine's turn
-abbrev pub end_of : Turn → Machine → End
-end_of turn.Halted m = Stopped m.registers.words m.cycles
-end_of turn.Broken m = Failed m.cycles
-end_of turn.Short m = Short m.cycles
+abbrev pub end_of : Turn → Machine → Limited (List ℤ)
+end_of turn.Halted m = Over (Halted m.registers.words) m.cycles
+end_of turn.Broken m = Over Broken m.cycles
+end_of turn.Short m = Cut m.cycles
 
 -- from this limit on, the execution goes on from the new registers as from the old ones
 pub record GoesOn (code : Code) (limit : ℕ) (old new : Machine) : Type 0 where
@@ -36,7 +37,7 @@ pub record GoesOn (code : Code) (limit : ℕ) (old new : Machine) : Type 0 where
 -- the next instruction would pass the limit, and nothing has changed
 pub record StopsShort (code : Code) (limit : ℕ) (old new : Machine) : Type 0 where
   pub unchanged : new ≡ old
-  pub short : exec_from code.instrs limit (standing old) old.cycles ≡ Short old.cycles
+  pub short : exec_from code.instrs limit (standing old) old.cycles ≡ Cut old.cycles
 
 -- the execution is over
 pub record StopsOver (code : Code) (limit : ℕ) (old new : Machine) (t : Turn) : Type 0 where
@@ -57,7 +58,7 @@ pub record IsRunning (m : Machine) (code : Code) (state ins : List ℤ) (limit :
   pub kept : m.limit ≡ limit
   pub same : (top : ℕ) → limit ≤ top
       → exec_from code.instrs top (start_of code state ins) 0 ≡ exec_from code.instrs top (standing m) m.cycles
-  pub short : exec_from code.instrs limit (standing m) m.cycles ≡ Short m.cycles
+  pub short : exec_from code.instrs limit (standing m) m.cycles ≡ Cut m.cycles
 
 -- the execution was over at the limit or below
 pub record IsFinished (m : Machine) (code : Code) (state ins : List ℤ) (limit : ℕ) : Type 0 where

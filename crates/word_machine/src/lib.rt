@@ -1,9 +1,6 @@
-//! The word machine: its instructions, its code and the typing rules, executions under a limit, free runs,
-//! and processors.
+//! The word machine: a processor of verified code.
 #![tactic(auto)]
 
-pub mod code;
-pub mod cpu;
 mod load;
 pub mod machine;
 mod operands;
@@ -11,9 +8,7 @@ mod places;
 mod registers;
 #[cfg(test)]
 mod tests;
-pub mod verified;
 
-pub use code::{CellShape, Code, Instr, Slot, cost};
-pub use cpu::{Cpu, Turn};
 pub use machine::Machine;
-pub use verified::Verified;
+pub use processor::{Cpu, Turn};
+pub use word_code::{CellShape, Code, Instr, Slot, Verified, cost};

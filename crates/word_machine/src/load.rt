@@ -1,11 +1,11 @@
 //! The words at the start of an execution, and those that it gives at its end.
 ghost use Rattle.std.specs.Prelude.{◌≡◌, ◌+◌, ◌≤◌, ◌++◌, length, take};
-ghost use Rattle.word_machine.specs.Cells.{words_at_start, width_of, total_width, cell_words, is_in, is_out, is_state};
-ghost use Rattle.word_machine.specs.Typing.{IsVerified};
+ghost use Rattle.word_code.specs.Cells.{words_at_start, width_of, total_width, cell_words, is_in, is_out, is_state};
+ghost use Rattle.word_code.specs.Typing.{IsVerified};
 
-use crate::Code;
 use crate::places::Places;
 use mars_base::Role;
+use word_code::Code;
 
 /// Makes the words with which an execution begins. It takes no memory.
 pub fn fill(words: &mut Places, code: &Code, state: &[i32], ins: &[i32])

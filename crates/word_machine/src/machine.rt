@@ -1,14 +1,15 @@
 //! The machine that runs verified code.
 ghost use Rattle.std.specs.Prelude.{◌≡◌, ◌<◌, ◌≤◌, ◌^◌, length, slice_get, Some};
-ghost use Rattle.word_machine.specs.Typing.{IsVerified};
+ghost use Rattle.word_code.specs.Typing.{IsVerified};
 
 use crate::load::{copy_outs, copy_state, fill};
 use crate::operands::{Operands, Returns};
 use crate::places::{Counters, Places};
 use crate::registers::{Registers, Went};
-use crate::{Code, Cpu, Slot, Turn, Verified, cost};
 use mars_base::Memory;
+use processor::{Cpu, Turn};
 use std::alloc::Global;
+use word_code::{Code, Slot, Verified, cost};
 
 /// A processor of 4,096 words of data, 256 counters, 64 operands and 16 open calls. All its memory is taken
 /// when it is made.
@@ -64,10 +65,10 @@ impl Machine {
 }
 
 impl Cpu for Machine {
-    ghost use Rattle.word_machine.specs.Cells.{width_of, is_in, is_out, is_state};
-    ghost use Rattle.word_machine.specs.Execution.{exec};
+    ghost use Rattle.word_code.specs.Cells.{width_of, is_in, is_out, is_state};
+    ghost use Rattle.word_code.specs.Execution.{exec};
     ghost use Rattle.word_machine.specs.Machine.{Runs};
-    ghost use Rattle.word_machine.specs.Laws.{ran_within, ran_costs, ran_agrees};
+    ghost use Rattle.word_code.proofs.CodeLaws.{ran_within, ran_costs, ran_agrees, ran_prefix};
 
     type Program = Verified;
 
@@ -81,11 +82,13 @@ impl Cpu for Machine {
 
     ghost runs = { Runs };
 
-    ghost within = { ran_within };
+    ghost within = { λ code limit state ins. ran_within code state ins limit };
 
-    ghost costs = { ran_costs };
+    ghost costs = { λ code limit state ins. ran_costs code state ins limit };
 
-    ghost agrees = { ran_agrees };
+    ghost agrees = { λ code limit other state ins. ran_agrees code state ins limit other };
+
+    ghost prefix = { λ code high low state ins. ran_prefix code state ins high low };
 
     fn load(&mut self, program: &Verified, state: &[i32], ins: &[i32]) {
         let code = program.code();

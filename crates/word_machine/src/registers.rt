@@ -1,13 +1,14 @@
 //! One instruction on all that an execution has.
 ghost use Rattle.std.specs.Prelude.{◌≡◌, ◌+◌, ◌<◌, ◌≤◌, length};
 ghost use Rattle.mars_base.specs.Store.{place_of};
-ghost use Rattle.word_machine.specs.Action.{Pushes, Loads, Stores, LoadsAt, StoresAt, Combines, Changes, Jumps, JumpsIfZero, Clears, Counts, Calls, Returns, action_of};
-ghost use Rattle.word_machine.specs.Ready.{IsReady, state_of, Acts};
+ghost use Rattle.word_code.specs.Action.{Pushes, Loads, Stores, LoadsAt, StoresAt, Combines, Changes, Jumps, JumpsIfZero, Clears, Counts, Calls, Returns, action_of};
+ghost use Rattle.word_code.specs.Ready.{IsReady};
+ghost use Rattle.word_machine.specs.Acts.{state_of, Acts};
 
-use crate::Instr;
 use crate::operands::{Operands, Returns as ReturnStack};
 use crate::places::{Counters, Places};
 use mars_base::{BinOp, UnOp, binary, unary};
+use word_code::Instr;
 
 /// What an execution has before an instruction.
 #[derive(Drop)]

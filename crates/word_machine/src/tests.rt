@@ -1,8 +1,9 @@
 //! The machine on worked rows: each code runs on a machine of its own.
 ghost use Rattle.std.specs.Prelude.{◌≡◌, ◌<◌, ◌^◌, length};
-ghost use Rattle.word_machine.specs.Cells.{width_of, is_in, is_out, is_state};
-ghost use Rattle.word_machine.specs.Execution.{turn_of, cycles_in, outs_in, state_in};
-ghost use Rattle.word_machine.specs.Typing.{IsVerified};
+ghost use Rattle.word_code.specs.Cells.{width_of, is_in, is_out, is_state};
+ghost use Rattle.processor.specs.Ends.{cycles_in};
+ghost use Rattle.processor.specs.Results.{turn_of, outs_in, state_in};
+ghost use Rattle.word_code.specs.Typing.{IsVerified};
 
 use crate::{CellShape, Code, Cpu, Instr, Machine, Slot, Turn, Verified};
 use mars_base::{Memory, Role};

@@ -1,8 +1,8 @@
 use Rattle.std.proofs.Common.{◌<◌, ◌^◌, sym, subst, ◌∙◌}
 use Rattle.mc_compile.specs.Cost.{costs_of}
 use Rattle.mc_tree.specs.Plain.{plain_task}
-use Rattle.word_machine.specs.Typing.{IsVerified}
-use Rattle.word_machine.specs.declared.code.Code.{Code}
+use Rattle.word_code.specs.Typing.{IsVerified}
+use Rattle.word_code.specs.declared.code.Code.{Code}
 use Rattle.thin_code.specs.Exact.{AlwaysTakes}
 use Rattle.thin_code.specs.Follows.{Follows}
 use Rattle.thin_code.specs.Widths.{HasWidths}

@@ -3,7 +3,7 @@ use Rattle.std.specs.Prelude.{map}
 use Rattle.mc_compile.specs.Translate.{slot}
 use Rattle.mc_compile.specs.Whole.{shape_of}
 use Rattle.mc_tree.specs.Plain.{plain_task, plain_list}
-use Rattle.word_machine.specs.declared.code.Instr.TheVariants.{Halt}
+use Rattle.word_code.specs.declared.code.Instr.TheVariants.{Halt}
 use Rattle.thin_code.specs.Straight.{assignments_code}
 use Rattle.thin_code.proofs.Thin.{thin_code}
 use Rattle.thin_code.proofs.translation.Goals as goal

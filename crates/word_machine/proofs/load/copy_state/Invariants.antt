@@ -1,5 +1,5 @@
 use Rattle.std.proofs.Common.{◌≡◌, ◌+◌, ◌≤◌, ◌++◌, length, drop, take}
-use Rattle.word_machine.specs.Cells.{cell_words, width_of, total_width, is_state}
+use Rattle.word_code.specs.Cells.{cell_words, width_of, total_width, is_state}
 use Rattle.word_machine.proofs.load.copy_state.Given as goal
 
 -- what is copied and the words of the cells that are left are the cells' words

@@ -1,5 +1,5 @@
 use Rattle.std.proofs.Common.{◌≡◌, ◌+◌, ◌++◌, length, drop}
-use Rattle.word_machine.specs.Cells.{cells_at_start, total_width, width_of, is_in, is_state}
+use Rattle.word_code.specs.Cells.{cells_at_start, total_width, width_of, is_in, is_state}
 use Rattle.word_machine.proofs.load.fill.Given as goal
 
 -- the words so far and those of the cells that are left are the cells' words

@@ -1,5 +1,5 @@
 use Rattle.std.proofs.Common.{refl}
-use Rattle.word_machine.proofs.Checked.{checked}
+use Rattle.word_code.proofs.Checked.{checked}
 use Rattle.word_machine.proofs.tests.array.Goals as goal
 
 pub run-requires-clause-verified : goal.run-requires-clause-verified

@@ -1,7 +1,7 @@
 use Rattle.std.proofs.Common.{arith}
-use Rattle.word_machine.proofs.Course.{ready}
+use Rattle.word_code.proofs.Course.{ready}
 use Rattle.word_machine.proofs.Turns.{stops_short, goes_on, stops_halted, stops_broken}
-use Rattle.word_machine.specs.Ready.{state_of}
+use Rattle.word_machine.specs.Acts.{state_of}
 use Rattle.word_machine.proofs.machine.Machine.step.Goals as goal
 
 pub returns-then-spent-limit : goal.returns-then-spent-limit

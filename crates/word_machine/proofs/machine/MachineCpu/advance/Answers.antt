@@ -1,6 +1,6 @@
 use Rattle.std.proofs.Common.{subst, Some}
 use Rattle.word_machine.specs.Machine.{Stepped}
-use Rattle.word_machine.specs.declared.code.Code.{Code}
+use Rattle.word_code.specs.declared.code.Code.{Code}
 use Rattle.word_machine.proofs.Turns.{advanced}
 use Rattle.word_machine.proofs.machine.MachineCpu.advance.Goals as goal
 

@@ -1,5 +1,5 @@
 use Rattle.std.proofs.Common.{◌≡◌, ℕ, ◌-◌, ◌≤◌}
-use Rattle.word_machine.specs.Execution.{exec_from}
+use Rattle.word_code.specs.Execution.{exec_from}
 use Rattle.word_machine.specs.Machine.{CanStep, standing}
 use Rattle.word_machine.proofs.machine.MachineCpu.advance.Given as goal
 

@@ -1,7 +1,7 @@
 use Rattle.std.proofs.Common.{◌≡◌, refl, ap, ◌∙◌, List, ℤ, ℕ, replicate, []}
-use Rattle.word_machine.specs.Cells.{start_of, words_at_start}
-use Rattle.word_machine.specs.State.{at}
-use Rattle.word_machine.specs.declared.code.Code.{Code}
+use Rattle.word_code.specs.Cells.{start_of, words_at_start}
+use Rattle.word_code.specs.State.{at}
+use Rattle.word_code.specs.declared.code.Code.{Code}
 use Rattle.word_machine.proofs.Turns.{loaded}
 use Rattle.word_machine.proofs.machine.MachineCpu.load.Goals as goal
 

@@ -1,0 +1,3 @@
+pub mod ByStep
+pub mod Laws
+pub mod Ties

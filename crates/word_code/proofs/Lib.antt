@@ -1,0 +1,9 @@
+pub mod Checked
+pub mod CodeLaws
+pub mod Course
+pub mod Exec
+pub mod FreeRuns
+pub mod Moves
+pub mod Refused
+pub mod Runs
+pub mod Tied

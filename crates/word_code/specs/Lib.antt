@@ -1,0 +1,14 @@
+pub mod Action
+pub mod Cells
+pub mod Cost
+pub mod Course
+pub mod Execution
+pub mod Free
+pub mod Ready
+pub mod Refused
+pub mod Runs
+pub mod State
+pub mod Step
+pub mod Tied
+pub mod Typing
+pub mod Words

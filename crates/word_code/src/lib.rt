@@ -1,0 +1,9 @@
+//! The code of the word machine: its instructions, the typing rules, what an execution of code comes to, and
+//! free runs.
+#![tactic(auto)]
+
+pub mod code;
+pub mod verified;
+
+pub use code::{CellShape, Code, Instr, Slot, cost};
+pub use verified::Verified;
