@@ -149,3 +149,30 @@ cycles_grow run within prefix low high le = by_kept (nat_le (cycles_in (run high
     by_kept : (b : Bool) → nat_le (cycles_in (run high)) low ≡ b → cycles_in (run low) ≤ cycles_in (run high)
     by_kept true e = omega (arith, prefix high low le (leb-true (cycles_in (run high)) low e))
     by_kept false e = omega (arith, within low, leb-false (cycles_in (run high)) low e)
+
+-- what an execution that halts leaves is so
+abbrev pub Leaves : {A : Type 0} → (A → Type 0) → Limited A → Type 0
+Leaves Q (Over (Halted left) cycles) = Q left
+Leaves Q (Over Broken cycles) = Unit {0}
+Leaves Q (Cut cycles) = Unit {0}
+
+module _ {S A : Type 0} (m : System S A) (P : S → Type 0) (Q : A → Type 0) (keeps : (s t : S) → P s → m.next s ≡ Goes t → P t) (leaves : (s : S) (left : A) → P s → m.next s ≡ Ends (Halted left) → Q left) where
+  next_leaves : (s : S) → P s → (go : S → Limited A) (cycles : ℕ) (next : Next S A) → m.next s ≡ next → ((t : S) → P t → Leaves Q (go t))
+      → Leaves Q (followed go cycles next)
+  next_leaves s p go cycles (Goes t) e g = g t (keeps s t p e)
+  next_leaves s p go cycles (Ends (Halted left)) e g = leaves s left p e
+  next_leaves s p go cycles (Ends Broken) e g = tt
+  next_leaves s p go cycles Stuck e g = tt
+
+  steps_leave : (n limit : ℕ) (s : S) (cycles : ℕ) → P s → Leaves Q (steps n m limit s cycles)
+  steps_leave zero limit s cycles p = tt
+  steps_leave (suc n) limit s cycles p =
+      let next = cycles + m.cost s in
+      cond_is (Leaves Q) (nat_le next limit) _ (Cut cycles)
+      (λ fits. next_leaves s p (λ t. steps n m limit t next) next (m.next s) refl (λ t q. steps_leave n limit t next q))
+      (λ past. tt)
+
+  -- what each state has that the steps reach is left where it halts
+  pub exec_leaves : (limit : ℕ) (s : S) (cycles : ℕ) → P s → Leaves Q (exec_by m limit s cycles)
+  unfolding exec_by
+  exec_leaves limit s cycles p = steps_leave (suc limit) limit s cycles p

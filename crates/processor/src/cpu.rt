@@ -31,6 +31,9 @@ pub trait Cpu {
     /// What the execution of a program comes to under a limit, from its state and its inputs.
     ghost execution: { Self.Program → ℕ → List ℤ → List ℤ → Ran };
 
+    /// Each word that the program itself has is a word.
+    ghost has_words: { Self.Program → Type 0 };
+
     /// The processor has this program loaded with this state and these inputs, and this is the greatest
     /// limit so far.
     ghost runs: { Self → Self.Program → List ℤ → List ℤ → ℕ → Type 0 };
@@ -39,7 +42,8 @@ pub trait Cpu {
     fn load(&mut self, program: &Self::Program, state: &[i32], ins: &[i32])
         requires state { length state.now ≡ states_of program.now }
         requires ins { length ins.now ≡ ins_of program.now }
-        ensures { runs self.new program.now state.now ins.now 0 };
+        ensures runs { runs self.new program.now state.now ins.now 0 }
+        ensures words { has_words program.now };
 
     /// Runs while the next instruction's cost keeps the cycles at or below the limit, and tells how the
     /// execution stands. A limit below an earlier one changes nothing. After `Halted` or `Broken` every later
@@ -95,4 +99,16 @@ pub trait Cpu {
     ghost prefix: { (program : Self.Program) (high low : ℕ) (state ins : List ℤ) → low ≤ high
         → cycles_in (execution program high state ins) ≤ low
         → cycles_in (execution program low state ins) ≡ cycles_in (execution program high state ins) };
+
+    /// An execution that halts leaves as many state words as the program takes, and gives its number of outputs.
+    ghost sized: { (program : Self.Program) (limit : ℕ) (state ins left outs : List ℤ)
+        → length state ≡ states_of program → length ins ≡ ins_of program
+        → end_under (execution program limit state ins) ≡ Halted (left, outs)
+        → (length left ≡ states_of program) × (length outs ≡ outs_of program) };
+
+    /// They are words where the state, the inputs and the program's own words are.
+    ghost words: { (program : Self.Program) (limit : ℕ) (state ins left outs : List ℤ)
+        → has_words program → AreWords state → AreWords ins
+        → end_under (execution program limit state ins) ≡ Halted (left, outs)
+        → AreWords left × AreWords outs };
 }

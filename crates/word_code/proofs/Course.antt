@@ -332,7 +332,7 @@ filled_length Local n cells state ins ih hs hi =
     let rest = ih state ins (omega (arith, hs)) (omega (arith, hi)) in
     length-append (replicate n (pos 0)) (cells_at_start cells state ins) ∙ omega (arith, rest, length-replicate n (pos 0))
 
-cells_length : (cells : List CellShape) (state ins : List ℤ) → length state ≡ width_of is_state cells → length ins ≡ width_of is_in cells
+pub cells_length : (cells : List CellShape) (state ins : List ℤ) → length state ≡ width_of is_state cells → length ins ≡ width_of is_in cells
     → length (cells_at_start cells state ins) ≡ total_width cells
 cells_length [] state ins hs hi = refl
 cells_length (c ∷ cells) state ins hs hi = filled_length c.role c.width cells state ins (λ st is. cells_length cells st is) hs hi

@@ -5,5 +5,7 @@ pub mod Exec
 pub mod FreeRuns
 pub mod Moves
 pub mod Refused
+pub mod Results
 pub mod Runs
 pub mod Tied
+pub mod Words

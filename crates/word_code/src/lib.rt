@@ -3,6 +3,7 @@
 #![tactic(auto)]
 
 pub mod code;
+mod ranges;
 pub mod verified;
 
 pub use code::{CellShape, Code, Instr, Slot, cost};

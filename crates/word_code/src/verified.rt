@@ -6,8 +6,10 @@ ghost use Rattle.word_code.specs.Execution.{Halts};
 ghost use Rattle.word_code.specs.Free.{FreeRun};
 ghost use Rattle.word_code.specs.Tied.{IsTied};
 ghost use Rattle.word_code.specs.Typing.{IsVerified};
+ghost use Rattle.word_code.specs.Words.{HasWords};
 
 use crate::Code;
+use crate::ranges::push_words;
 use std::marker::Model;
 
 /// Verified code, which contracts see as the code.
@@ -19,12 +21,13 @@ pub struct Verified {
 impl Model for Verified {
     ghost use Rattle.word_code.specs.declared.code.Code.{Code};
     ghost use Rattle.word_code.specs.Typing.{IsVerified};
+    ghost use Rattle.word_code.specs.Words.{HasWords};
 
     ghost Value = { Code };
 
     ghost view = { λ verified. verified.code };
 
-    ghost invariant = { λ verified. IsVerified verified.code };
+    ghost invariant = { λ verified. IsVerified verified.code × HasWords verified.code };
 }
 
 impl Verified {
@@ -33,6 +36,7 @@ impl Verified {
         requires { IsVerified code }
         ensures { result ≡ code }
     {
+        push_words(code.instrs.as_slice());
         Verified { code }
     }
 
@@ -45,6 +49,7 @@ impl Verified {
         ensures never_stuck { NeverStuck self.now }
         ensures tied { (state ins : List ℤ) → length state ≡ width_of is_state self.now.cells
             → length ins ≡ width_of is_in self.now.cells → IsTied self.now state ins }
+        ensures words { HasWords self.now }
         ensures free { (state ins left outs : List ℤ) (cycles : ℕ) → Halts self.now state ins left outs cycles
             → FreeRun self.now cycles }
     {

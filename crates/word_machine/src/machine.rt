@@ -68,7 +68,9 @@ impl Cpu for Machine {
     ghost use Rattle.word_code.specs.Cells.{width_of, is_in, is_out, is_state};
     ghost use Rattle.word_code.specs.Execution.{exec};
     ghost use Rattle.word_machine.specs.Machine.{Runs};
+    ghost use Rattle.word_code.specs.Words.{HasWords};
     ghost use Rattle.word_code.proofs.CodeLaws.{ran_within, ran_costs, ran_agrees, ran_prefix};
+    ghost use Rattle.word_code.proofs.Results.{ran_sized, ran_words};
 
     type Program = Verified;
 
@@ -80,6 +82,8 @@ impl Cpu for Machine {
 
     ghost execution = { exec };
 
+    ghost has_words = { HasWords };
+
     ghost runs = { Runs };
 
     ghost within = { λ code limit state ins. ran_within code state ins limit };
@@ -87,6 +91,10 @@ impl Cpu for Machine {
     ghost costs = { λ code limit state ins. ran_costs code state ins limit };
 
     ghost agrees = { λ code limit other state ins. ran_agrees code state ins limit other };
+
+    ghost sized = { λ code limit state ins. ran_sized code state ins limit };
+
+    ghost words = { λ code limit state ins. ran_words code state ins limit };
 
     ghost prefix = { λ code high low state ins. ran_prefix code state ins high low };
 
