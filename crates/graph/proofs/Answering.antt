@@ -1,5 +1,5 @@
 -- What a test answers.
-use Rattle.std.proofs.Common.{◌≡◌, ◌↔◌, true, false, refl}
+use Rattle.std.proofs.Common.{◌↔◌, true, false, refl}
 use Rattle.std.specs.Prelude.{IsTrue}
 use Rattle.std.proofs.lemmas.Bool.{false≢true}
 

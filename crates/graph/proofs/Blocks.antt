@@ -1,13 +1,12 @@
 -- The job at a place of a block is the least that is ready.
-use Rattle.std.proofs.Common.{◌≡◌, ℕ, zero, suc, ◌+◌, ◌/◌, ◌<◌, ◌≤◌, ◌⊎◌, ◌↔◌, inl, inr, List, [], ◌∷◌, ◌++◌, length, take, get_or, refl, sym, ◌∙◌, ap, ap₂, subst, arith}
+use Rattle.std.proofs.Common.{◌≡◌, ℕ, zero, suc, ◌+◌, ◌/◌, ◌<◌, ◌≤◌, ◌↔◌, inl, inr, List, [], ◌∷◌, ◌++◌, length, take, get_or, refl, sym, ◌∙◌, ap, ap₂, subst, arith}
 use Rattle.std.specs.Prelude.{Contains}
 use Rattle.std.proofs.lemmas.Bool.{cases_lt, cases_eq}
 use Rattle.std.proofs.lemmas.List.Elements.{Contains-push, Contains-push_cases, Contains-append_left}
 use Rattle.graph.specs.declared.net.Net.{Net}
-use Rattle.graph.specs.declared.net.Edge.{Edge}
-use Rattle.graph.specs.Net.{instances, Feeds, period_of}
+use Rattle.graph.specs.Net.{instances, Feeds}
 use Rattle.graph.specs.Cycle.{first_job, job_count}
-use Rattle.graph.specs.Order.{IsReady, IsNext, IsInOrder, IsOrder}
+use Rattle.graph.specs.Order.{IsReady, IsNext, IsOrder}
 use Rattle.graph.specs.Jobs.{job_number, IsProducer}
 use Rattle.graph.specs.Sound.{HasEntries}
 use Rattle.graph.specs.Blocks.{IsBlock, IsNamed, HasCome}

@@ -1,13 +1,13 @@
 -- Edges go in no circle exactly where all tasks have an order.
-use Rattle.std.proofs.Common.{◌≡◌, ℕ, zero, suc, ◌+◌, ◌<◌, ◌≤◌, ◌⊎◌, inl, inr, Bool, true, false, cond, nat_eq, List, [], ◌∷◌, ◌++◌, length, take, get_or, refl, sym, ◌∙◌, ap, subst, arith}
-use Rattle.std.specs.Prelude.{Any, All, Contains}
-use Rattle.std.proofs.lemmas.Bool.{cases_eq, cases_lt, eq-eqb, ne_eqb}
-use Rattle.std.proofs.lemmas.List.{get_or_default}
+use Rattle.std.proofs.Common.{◌≡◌, ℕ, zero, suc, ◌<◌, ◌≤◌, ◌⊎◌, inl, inr, cond, nat_eq, List, [], ◌∷◌, length, take, get_or, refl, sym, subst, arith}
+use Rattle.std.specs.Prelude.{Contains}
+use Rattle.std.proofs.lemmas.Bool.{cases_eq, eq-eqb, ne_eqb}
 use Rattle.graph.specs.declared.net.Net.{Net}
 use Rattle.graph.specs.declared.net.Edge.{Edge}
 use Rattle.graph.specs.Net.{Feeds}
-use Rattle.graph.specs.Order.{IsReady, IsNext, IsInOrder, IsOrder}
-use Rattle.graph.specs.Sound.{HasEntries, HasNoCircle}
+use Rattle.graph.specs.Order.{IsReady, IsInOrder, IsOrder}
+use Rattle.graph.specs.Order.{HasNoCircle}
+use Rattle.graph.specs.Sound.{HasEntries}
 use Rattle.graph.specs.Masks.{GoesBetween}
 use Rattle.graph.proofs.Entries.{joined}
 use Rattle.graph.proofs.Listed.{stands, left_out, place_of, before_place}
@@ -36,24 +36,18 @@ rank_from (y ∷ ys) (suc k) x fits not = elim (cases_eq y x) [
 ]
 
 -- an order ranks the tasks
-pub ranked : (net : Net) → HasEntries net → (tasks : List ℕ) → IsOrder (Feeds net) (length net.tasks) tasks → HasNoCircle net
+pub ranked : (net : Net) → HasEntries net → (tasks : List ℕ) → IsOrder (Feeds net) (length net.tasks) tasks → HasNoCircle (Feeds net)
 ranked net entries tasks order = (
   rank_in tasks,
-  λ i d low.
-      let e = get_or net.edges i d in
-      let is = entries.edges i d low in
-      let to = place_of tasks e.to_task (order.whole e.to_task is.to_task) in
-      let same : get_or tasks to.0 0 ≡ e.to_task = to.2 in
+  λ a b f.
+      let to = place_of tasks b (order.whole b (joined net entries a b f).1) in
+      let same : get_or tasks to.0 0 ≡ b = to.2 in
       let next = order.each to.0 to.1 in
-      let edge : Feeds net e.from_task (get_or tasks to.0 0) = (i, e, low, again net.edges i d low, (refl, sym same)) in
-      let from = before_place tasks to.0 e.from_task (next.ready.all_before e.from_task edge) in
-      let below = rank_before tasks to.0 from.0 e.from_task from.1 from.2 from.3 in
-      let above = rank_from tasks to.0 e.to_task (omega (arith, to.1)) (subst (λ x. Contains (take to.0 tasks) x → ⊥) same next.ready.is_new) in
+      let from = before_place tasks to.0 a (next.ready.all_before a (subst (Feeds net a) (sym same) f)) in
+      let below = rank_before tasks to.0 from.0 a from.1 from.2 from.3 in
+      let above = rank_from tasks to.0 b (omega (arith, to.1)) (subst (λ x. Contains (take to.0 tasks) x → ⊥) same next.ready.is_new) in
       omega (arith, below, above),
 )
-  where
-    again : (es : List Edge) (i : ℕ) (d : Edge) → i < length es → get_or es i (get_or es i d) ≡ get_or es i d
-    again es i d low = get_or_default es i (get_or es i d) d low
 
 -- a task whose producers all stand in the list, or a producer that doesn't
 producers : (es : List Edge) (list : List ℕ) (t : ℕ) → ((p : ℕ) → GoesBetween es p t → Contains list p) ⊎ ((p : ℕ) × GoesBetween es p t × (Contains list p → ⊥))
@@ -78,7 +72,7 @@ producers (e ∷ es) list t = elim (producers es list t) [
 
 -- where no task is ready, and some task is left out, edges go in a circle
 pub circle : (net : Net) → HasEntries net → (tasks : List ℕ) → IsInOrder (Feeds net) (length net.tasks) tasks → length tasks < length net.tasks →
-    ((t : ℕ) → t < length net.tasks → IsReady (Feeds net) (length net.tasks) tasks t → ⊥) → HasNoCircle net → ⊥
+    ((t : ℕ) → t < length net.tasks → IsReady (Feeds net) (length net.tasks) tasks t → ⊥) → HasNoCircle (Feeds net) → ⊥
 circle net entries tasks order few none (rank, goes) =
     let w = left_out (Feeds net) (length net.tasks) tasks order few in
     stuck (suc (rank w.0)) w.0 (omega arith) w.1 w.2
@@ -88,9 +82,6 @@ circle net entries tasks order few none (rank, goes) =
     stuck (suc m) t low inside new = elim (producers net.edges tasks t) [
       | inl all ↦ none t inside (record { is_one = inside; is_new = new; all_before = all })
       | inr p ↦
-          let f : Feeds net p.0 t = p.1 in
-          let up : rank p.1.1.from_task < rank p.1.1.to_task = subst (λ (x : Edge). rank x.from_task < rank x.to_task) p.1.3 (goes p.1.0 p.1.1 p.1.2) in
-          let from : rank p.1.1.from_task ≡ rank p.0 = ap rank p.1.4.0 in
-          let to : rank p.1.1.to_task ≡ rank t = ap rank p.1.4.1 in
-          stuck m p.0 (omega (arith, low, up, from, to)) (joined net entries p.0 t f).0 p.2
+          let up : rank p.0 < rank t = goes p.0 t p.1 in
+          stuck m p.0 (omega (arith, low, up)) (joined net entries p.0 t p.1).0 p.2
     ]

@@ -1,11 +1,10 @@
 -- What the rules for the entries say of the task, the transaction and the edge with a number.
-use Rattle.std.proofs.Common.{◌≡◌, ℕ, ◌+◌, ◌<◌, ◌≤◌, List, length, get_or, inl, inr, ◌⊎◌, refl, sym, ◌∙◌, ap, subst, arith, Some, None}
+use Rattle.std.proofs.Common.{◌≡◌, ℕ, ◌<◌, ◌≤◌, List, length, inl, inr, sym, ◌∙◌, ap, subst, arith, Some, None}
 use Rattle.std.specs.Prelude.{All, slice_get}
 use Rattle.std.proofs.lemmas.Option.{slice_get_cases, slice_get_within, get_or_from_slice_get}
 use Rattle.graph.specs.declared.net.Net.{Net}
 use Rattle.graph.specs.declared.net.NetTask.{NetTask}
 use Rattle.graph.specs.declared.net.Transaction.{Transaction}
-use Rattle.graph.specs.declared.net.Edge.{Edge}
 use Rattle.graph.specs.Net.{transaction_of, ins_of, period_of, deadline_of, transaction_period, transaction_deadline, task_transaction, task_ins, Feeds}
 use Rattle.graph.specs.Rules.{IsTask, IsTransaction, IsEdge}
 use Rattle.graph.specs.Sound.{HasEntries}

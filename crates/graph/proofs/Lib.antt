@@ -2,12 +2,17 @@ pub mod Answering
 pub mod Blocks
 pub mod Circles
 pub mod Entries
+pub mod Feeding
 pub mod JobLists
 pub mod Listed
 pub mod Masks
 pub mod Multiples
+pub mod NetGraphs
+pub mod Nets
 pub mod Numbers
 pub mod Parts
 pub mod Remaining
+pub mod Repeats
+pub mod TaskOrder
 pub mod Whole
 pub mod Within

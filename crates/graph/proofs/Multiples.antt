@@ -1,9 +1,9 @@
 -- Least common multiples by greatest common divisors.
-use Rattle.std.proofs.Common.{◌≡◌, ℕ, zero, suc, ◌+◌, ◌*◌, ◌/◌, ◌%◌, ◌<◌, ◌≤◌, List, [], ◌∷◌, ◌++◌, length, get_or, inl, inr, refl, sym, ◌∙◌, ap, ap₂, subst, arith, mul-le-mul_right, zero-mul}
+use Rattle.std.proofs.Common.{◌≡◌, ℕ, zero, suc, ◌+◌, ◌*◌, ◌/◌, ◌%◌, ◌<◌, ◌≤◌, List, [], ◌∷◌, ◌++◌, get_or, inl, inr, sym, ◌∙◌, ap, ap₂, subst, arith, mul-le-mul_right, zero-mul}
 use Rattle.std.specs.Prelude.{All}
 use Rattle.std.specs.Int.{IsGcd}
 use Prim.Native.Nat.{◌∣◌}
-use Rattle.std.proofs.Math.Nat.{div-add-mod', mod-lt, mul_comm, mul_assoc, dvd-mul_left, dvd-mul_right, dvd_of_mul-dvd-mul_right, mul-dvd-mul_left, mul-dvd-mul_right, div-mul_cancel, mod-eq-zero_of_dvd, dvd_of_mod-eq-zero, pos_of_dvd_of_pos, dvd_trans, dvd_refl, dvd_antisymm, le_of_dvd}
+use Rattle.std.proofs.Math.Nat.{div-add-mod', mod-lt, mul_comm, dvd-mul_left, dvd-mul_right, dvd_of_mul-dvd-mul_right, mul-dvd-mul_left, mul-dvd-mul_right, div-mul_cancel, mod-eq-zero_of_dvd, dvd_of_mod-eq-zero, pos_of_dvd_of_pos, dvd_trans, dvd_refl, dvd_antisymm, le_of_dvd}
 use Rattle.std.proofs.lemmas.Nat.{mod-mul-add}
 use Rattle.std.proofs.lemmas.Nat.Gcd.{IsGcd-from_zero, IsGcd-from_mod, same_from_IsGcd}
 use Rattle.std.proofs.lemmas.Bool.{cases_eq}

@@ -1,9 +1,9 @@
 -- The numbers of jobs: by task, and then by instance.
-use Rattle.std.proofs.Common.{◌≡◌, ℕ, zero, suc, ◌+◌, ◌-◌, ◌<◌, ◌≤◌, ◌⊎◌, inl, inr, refl, sym, ◌∙◌, ap, subst, arith, length}
+use Rattle.std.proofs.Common.{◌≡◌, ℕ, zero, suc, ◌+◌, ◌-◌, ◌<◌, ◌≤◌, inl, inr, ap, arith}
 use Rattle.std.proofs.lemmas.Bool.{cases_lt, cases_eq}
 use Rattle.graph.specs.declared.net.Net.{Net}
 use Rattle.graph.specs.Net.{instances}
-use Rattle.graph.specs.Cycle.{first_job, job_count}
+use Rattle.graph.specs.Cycle.{first_job}
 use Rattle.graph.specs.Jobs.{job_number}
 
 -- the jobs of a task stand before those of a later task

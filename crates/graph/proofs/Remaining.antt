@@ -1,13 +1,12 @@
 -- Remaining ticks of tasks and of jobs.
-use Rattle.std.proofs.Common.{◌≡◌, ◌≢◌, ℕ, zero, suc, ◌+◌, ◌-◌, ◌*◌, ◌/◌, ◌^◌, ◌<◌, ◌≤◌, ◌⊎◌, inl, inr, List, [], ◌∷◌, length, take, get_or, set, refl, sym, ◌∙◌, ap, subst, arith}
-use Rattle.std.specs.Prelude.{map, Contains}
+use Rattle.std.proofs.Common.{◌≡◌, ℕ, zero, suc, ◌+◌, ◌*◌, ◌/◌, ◌^◌, ◌<◌, ◌≤◌, inl, inr, List, length, get_or, set, refl, sym, ◌∙◌, ap, subst, arith}
+use Rattle.std.specs.Prelude.{map}
 use Rattle.std.proofs.Math.ListN.{get_or-map}
-use Rattle.std.proofs.lemmas.Bool.{cases_lt, cases_eq}
+use Rattle.std.proofs.lemmas.Bool.{cases_eq}
 use Rattle.std.proofs.lemmas.List.{get_or-set_same, get_or-set_other, length-set, get_or_default, ext_get_or, length-map}
 use Rattle.graph.specs.declared.net.Net.{Net}
 use Rattle.graph.specs.declared.job.Job.{Job}
 use Rattle.graph.specs.Net.{instances, Feeds}
-use Rattle.graph.specs.Cycle.{first_job, job_count}
 use Rattle.graph.specs.Order.{IsOrder}
 use Rattle.graph.specs.Jobs.{job_of, jobs_of, job_number, IsProducer, IsGreatestAfter, IsRemaining}
 use Rattle.graph.specs.Sound.{HasEntries}

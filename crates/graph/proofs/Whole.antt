@@ -1,5 +1,5 @@
 -- The parts of a graph make the net's graph.
-use Rattle.std.proofs.Common.{◌≡◌, ℕ, ◌+◌, ◌*◌, ◌^◌, ◌<◌, ◌≤◌, inl, inr, List, length, get_or, refl, sym, ◌∙◌, ap, subst, arith}
+use Rattle.std.proofs.Common.{◌≡◌, ℕ, ◌*◌, ◌^◌, ◌<◌, ◌≤◌, inl, inr, List, length, get_or, Option, refl, sym, ◌∙◌, ap, subst, arith}
 use Rattle.std.specs.Prelude.{All, map}
 use Rattle.std.proofs.Math.ListN.{get_or-map}
 use Rattle.std.proofs.lemmas.Bool.{cases_lt}
@@ -7,12 +7,15 @@ use Rattle.std.proofs.lemmas.List.{length-map, get_or_past, get_or_default}
 use Rattle.graph.specs.declared.net.Net.{Net}
 use Rattle.graph.specs.declared.job.Job.{Job}
 use Rattle.graph.specs.Net.{Feeds}
-use Rattle.graph.specs.Cycle.{IsWithinLimits, job_count}
+use Rattle.graph.specs.declared.feeder.Feeder.{Feeder}
+use Rattle.graph.specs.Feeders.{feeder_of}
+use Rattle.graph.specs.FeederTable.{feeder_in}
+use Rattle.graph.specs.Cycle.{IsWithinLimits, first_job, job_count}
 use Rattle.graph.specs.Order.{IsOrder}
 use Rattle.graph.specs.Jobs.{jobs_of, job_of, IsProducer}
 use Rattle.graph.specs.Sound.{HasEntries}
 use Rattle.graph.specs.TaskRemaining.{HasRemainingFrom}
-use Rattle.graph.specs.JobGraph.{JobGraph, IsJobGraph}
+use Rattle.graph.specs.JobGraph.{IsJobGraph}
 use Rattle.graph.specs.GraphOf.{IsGraphOf}
 use Rattle.graph.proofs.Numbers.{job_at}
 use Rattle.graph.proofs.JobLists.{job_there, length-jobs_of}
@@ -39,33 +42,41 @@ mapped_few jobs g b all k = elim (cases_lt k (length (map g jobs))) [
         omega (arith, e, a)
 
 -- the fields of a graph keep its invariant
-pub is_job_graph : (net : Net) (lengths tasks list order remaining : List ℕ) (h : ℕ) (jobs : List Job) → length tasks ≤ 64 → HasRemainingFrom net lengths tasks list 0 →
-    remaining ≡ map (λ (j : Job). get_or list j.task 0) jobs → IsJobGraph (record { cycle = h; jobs = jobs; order = order; remaining = remaining })
-is_job_graph net lengths tasks list order remaining h jobs small come e = record {
+pub is_job_graph : (net : Net) (lengths tasks list order remaining firsts : List ℕ) (feeders : List (Option Feeder)) (h : ℕ) (jobs : List Job) → length tasks ≤ 64 → HasRemainingFrom net lengths tasks list 0 →
+    remaining ≡ map (λ (j : Job). get_or list j.task 0) jobs → jobs ≡ jobs_of net h lengths (length net.tasks) → job_count net h ≤ 512 → length feeders ≡ 1024
+    → IsJobGraph (record { cycle = h; jobs = jobs; order = order; remaining = remaining; first_jobs = firsts; feeders = feeders })
+is_job_graph net lengths tasks list order remaining firsts feeders h jobs small come e all few ports = record {
   size = ap length e ∙ length-map jobs (λ (j : Job). get_or list j.task 0);
   few = λ k.
       let bound = mapped_few jobs (λ (j : Job). get_or list j.task 0) (length tasks * 2 ^ 32) (λ j. (let a = come.few j.task in omega (arith, a))) k in
       let is : get_or remaining k 0 ≡ get_or (map (λ (j : Job). get_or list j.task 0) jobs) k 0 = ap (λ xs. get_or xs k 0) e in
       omega (arith, bound, is, small);
+  few_jobs = omega (arith, ap length all, length-jobs_of net h lengths (length net.tasks), few);
+  ports = ports;
 }
 
 -- the parts are the net's graph
-pub is_graph : (net : Net) → HasEntries net → (lengths tasks list order remaining : List ℕ) (h : ℕ) (jobs : List Job) → IsWithinLimits net h → IsOrder (Feeds net) (length net.tasks) tasks →
+pub is_graph : (net : Net) → HasEntries net → (lengths tasks list order remaining firsts : List ℕ) (feeders : List (Option Feeder)) (h : ℕ) (jobs : List Job) → IsWithinLimits net h → IsOrder (Feeds net) (length net.tasks) tasks →
     jobs ≡ jobs_of net h lengths (length net.tasks) → IsOrder (IsProducer net h) (job_count net h) order → HasRemainingFrom net lengths tasks list 0 →
-    remaining ≡ map (λ (j : Job). get_or list j.task 0) jobs → IsGraphOf net lengths (record { cycle = h; jobs = jobs; order = order; remaining = remaining })
-is_graph net entries lengths tasks list order remaining h jobs limits first e named come f =
+    remaining ≡ map (λ (j : Job). get_or list j.task 0) jobs → length firsts ≡ length net.tasks → ((task : ℕ) → task < length net.tasks → get_or firsts task 0 ≡ first_job net h task) →
+    ((task port : ℕ) → task < 64 → port < 16 → feeder_in feeders task port ≡ feeder_of net task port)
+    → IsGraphOf net lengths (record { cycle = h; jobs = jobs; order = order; remaining = remaining; first_jobs = firsts; feeders = feeders })
+is_graph net entries lengths tasks list order remaining firsts feeders h jobs limits first e named come f tasks_size firsts_are feeders_are =
     let all = jobs_of net h lengths (length net.tasks) in
     let rest = map (λ (j : Job). get_or list j.task 0) all in
     let rest_is : map (λ (j : Job). get_or list j.task 0) all ≡ remaining = ap (λ (js : List Job). map (λ (j : Job). get_or list j.task 0) js) (sym e) ∙ sym f in
     let size : length rest ≡ length all = length-map all (λ (j : Job). get_or list j.task 0) in
     let named' : IsOrder (IsProducer net h) (length all) order = subst (λ n. IsOrder (IsProducer net h) n order) (sym (length-jobs_of net h lengths (length net.tasks))) named in
     let is = of_jobs net entries h lengths tasks list first come in
-    subst (λ (js : List Job). IsGraphOf net lengths (record { cycle = h; jobs = js; order = order; remaining = remaining })) (sym e)
-    (subst (λ (r : List ℕ). IsGraphOf net lengths (record { cycle = h; jobs = all; order = order; remaining = r })) rest_is (record {
+    subst (λ (js : List Job). IsGraphOf net lengths (record { cycle = h; jobs = js; order = order; remaining = remaining; first_jobs = firsts; feeders = feeders })) (sym e)
+    (subst (λ (r : List ℕ). IsGraphOf net lengths (record { cycle = h; jobs = all; order = order; remaining = r; first_jobs = firsts; feeders = feeders })) rest_is (record {
       limits = limits;
       jobs = refl;
       order = named';
       size = size;
       remaining = is;
       only = λ other n h'. only_remaining net h all order other rest named' (next_is_job net entries h lengths) n size h' is;
+      tasks = tasks_size;
+      first_jobs = firsts_are;
+      feeders = feeders_are;
     }))

@@ -1,6 +1,6 @@
 -- A net that passes a limit has no cycle within the limits.
-use Rattle.std.proofs.Common.{◌≡◌, ℕ, ◌+◌, ◌*◌, ◌<◌, ◌≤◌, ◌↔◌, Bool, Result, Ok, Err, List, [], ◌∷◌, take, get_or, refl, sym, ◌∙◌, ap, subst, arith, mul-le-mul_right}
-use Rattle.std.specs.Prelude.{All, map, IsTrue, is_ok, MatchResult}
+use Rattle.std.proofs.Common.{◌≡◌, ℕ, ◌+◌, ◌*◌, ◌<◌, ◌≤◌, ◌↔◌, Bool, Result, Ok, Err, [], take, sym, ◌∙◌, ap, arith, mul-le-mul_right}
+use Rattle.std.specs.Prelude.{map, IsTrue, is_ok, MatchResult}
 use Rattle.std.proofs.lemmas.Bool.{false≢true}
 use Rattle.std.proofs.lemmas.List.Elements.{All-cons, All-map, All-take}
 use Rattle.graph.specs.declared.net.Net.{Net}
@@ -10,7 +10,7 @@ use Rattle.graph.specs.declared.job.GraphFault.TheVariants.{CycleTooLong, TooMan
 use Rattle.graph.specs.Net.{cycle_parts}
 use Rattle.graph.specs.Cycle.{Divides, IsCycle, IsWithinLimits, job_count, sensor_words}
 use Rattle.graph.specs.Faults.{PassesLimit}
-use Rattle.graph.specs.Rules.{IsShape, IsTransaction}
+use Rattle.mars_base.specs.Shape.{IsShape}
 use Rattle.graph.specs.Sound.{KeepsEntryRules}
 use Rattle.graph.proofs.Multiples.{multiple_some, front_multiple, same_multiple}
 

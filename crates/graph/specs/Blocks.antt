@@ -1,6 +1,6 @@
 -- How the order of the jobs follows from the order of the tasks. A block of an order is a place and the places
 -- after it up to the first with a greater number. The jobs of a block's tasks stand instance by instance.
-use Rattle.std.specs.Prelude.{◌≡◌, ℕ, ◌+◌, ◌<◌, ◌≤◌, ◌⊎◌, ◌↔◌, List, length, Contains, slice_index}
+use Rattle.std.specs.Prelude.{ℕ, ◌<◌, ◌≤◌, ◌⊎◌, ◌↔◌, List, length, Contains, slice_index}
 use Rattle.graph.specs.declared.net.Net.{Net}
 use Rattle.graph.specs.Net.{instances}
 use Rattle.graph.specs.Cycle.{job_count}

@@ -1,7 +1,6 @@
 -- The length of a cycle, and how much a cycle holds.
 use Rattle.std.specs.Prelude.{◌≡◌, ℕ, zero, suc, ◌*◌, ◌+◌, ◌<◌, ◌≤◌, ◌%◌, List, ◌∷◌, [], length, take, All, slice_index}
 use Rattle.graph.specs.declared.net.Net.{Net}
-use Rattle.graph.specs.declared.net.NetTask.{NetTask}
 use Rattle.graph.specs.declared.net.Plug.{Plug}
 use Rattle.graph.specs.Net.{cycle_parts, instances, ins_of}
 

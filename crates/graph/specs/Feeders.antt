@@ -1,5 +1,5 @@
 -- What feeds an in port, and what feeds a task.
-use Rattle.std.specs.Prelude.{◌≡◌, ℕ, zero, suc, Bool, ◌==◌, ◌&&◌, List, [], ◌∷◌, ◌++◌, map, length, position, slice_get, Option, Some, None}
+use Rattle.std.specs.Prelude.{◌≡◌, ℕ, zero, suc, ◌==◌, ◌&&◌, List, [], ◌∷◌, ◌++◌, map, length, position, slice_get, Option, Some, None}
 use Rattle.graph.specs.declared.net.Net.{Net}
 use Rattle.graph.specs.declared.net.Edge.{Edge}
 use Rattle.graph.specs.declared.net.Plug.{Plug}

@@ -5,13 +5,21 @@ use Rattle.graph.specs.declared.job.Job.{Job}
 use Rattle.graph.specs.Net.{period_of, deadline_of, instances, Feeds}
 use Rattle.graph.specs.Cycle.{first_job}
 
--- an instance of a task: released after so many periods, with its deadline and the task's length
+-- the tick before which an instance of a task can't start: so many periods from the cycle's start
+abbrev pub release_of : Net → (task instance : ℕ) → ℕ
+release_of net task instance = instance * period_of net task
+
+-- the tick by which it ends
+abbrev pub due_of : Net → (task instance : ℕ) → ℕ
+due_of net task instance = release_of net task instance + deadline_of net task
+
+-- an instance of a task, with its release, its deadline and the task's length
 abbrev pub job_of : Net → (lengths : List ℕ) → (task instance : ℕ) → Job
 job_of net lengths task instance = record {
   task = task;
   instance = instance;
-  release = instance * period_of net task;
-  deadline = instance * period_of net task + deadline_of net task;
+  release = release_of net task instance;
+  deadline = due_of net task instance;
   length = slice_index lengths task;
 }
 

@@ -1,10 +1,8 @@
 -- How many ticks a job takes.
-use Rattle.std.specs.Prelude.{ℕ, ◌+◌, ◌-◌, ◌/◌, max}
+use Rattle.std.specs.Prelude.{ℕ, max}
+use Rattle.std.specs.Int.{div_ceil}
 
--- the rounded-up quotient of two numbers; the divisor is at least 1
-abbrev pub rounded_up : (number divisor : ℕ) → ℕ
-rounded_up number divisor = (number + (divisor - 1)) / divisor
-
--- the ticks of a job that takes at most so many cycles: enough for all its cycles, and at least 1
+-- the ticks of a job that takes at most so many cycles: the rounded-up quotient, so enough for all its cycles, and
+-- at least 1
 abbrev pub length_of : (maxt cycles_per_tick : ℕ) → ℕ
-length_of maxt cycles_per_tick = max 1 (rounded_up maxt cycles_per_tick)
+length_of maxt cycles_per_tick = max 1 (div_ceil maxt cycles_per_tick)

@@ -1,6 +1,7 @@
 pub mod Blocks
 pub mod Cycle
 pub mod Faults
+pub mod FeederTable
 pub mod Feeders
 pub mod GraphOf
 pub mod JobGraph
@@ -13,5 +14,4 @@ pub mod NetGraph
 pub mod Order
 pub mod Rules
 pub mod Sound
-pub mod TaskOrder
 pub mod TaskRemaining

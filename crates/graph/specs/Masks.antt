@@ -1,5 +1,5 @@
 -- Sets of tasks as masks: bit n stands for task n.
-use Rattle.std.specs.Prelude.{◌≡◌, ℕ, ◌-◌, ◌^◌, ◌<◌, ◌↔◌, List, length, Any, slice_index, bit_and}
+use Rattle.std.specs.Prelude.{◌≡◌, ℕ, ◌<◌, ◌↔◌, List, Any, slice_index, bit_and}
 use Rattle.std.specs.Int.{bit_at, bit_not, w64}
 use Rattle.graph.specs.declared.net.Edge.{Edge}
 

@@ -1,11 +1,10 @@
 -- What the numbers of a net name.
-use Rattle.std.specs.Prelude.{◌≡◌, ℕ, ◌+◌, ◌/◌, Bool, ◌==◌, ◌&&◌, List, [], ◌∷◌, map, count_by, slice_get, slice_index, Option, Some, None, Any}
+use Rattle.std.specs.Prelude.{◌≡◌, ℕ, ◌/◌, List, [], ◌∷◌, map, slice_get, slice_index, Option, Some, None, Any}
 use Rattle.std.specs.Int.{bit_at}
 use Rattle.graph.specs.declared.net.Net.{Net}
 use Rattle.graph.specs.declared.net.NetTask.{NetTask}
 use Rattle.graph.specs.declared.net.Transaction.{Transaction}
 use Rattle.graph.specs.declared.net.Edge.{Edge}
-use Rattle.graph.specs.declared.net.Plug.{Plug}
 
 abbrev pub task_transaction : Option NetTask → ℕ
 task_transaction None = 0
@@ -64,12 +63,6 @@ deadline_of net task = transaction_deadline (slice_get net.transactions (transac
 -- an edge goes from a task to a task
 abbrev pub Feeds : Net → (from to : ℕ) → Type 0
 Feeds net from to = Any (λ (e : Edge). (e.from_task ≡ from) × (e.to_task ≡ to)) net.edges
-
--- how many edges and sensors feed an in port
-abbrev pub feeds_to : Net → (task port : ℕ) → ℕ
-feeds_to net task port =
-    count_by (λ (e : Edge). (e.to_task == task) && (e.to_port == port)) net.edges
-    + count_by (λ (s : Plug). (s.task == task) && (s.port == port)) net.sensors
 
 -- the round and the periods, of which a cycle is made
 abbrev pub cycle_parts : Net → List ℕ

@@ -21,3 +21,7 @@ pub record IsOrder (Before : ℕ → ℕ → Type 0) (n : ℕ) (list : List ℕ)
   pub size : length list ≡ n
   pub whole : (x : ℕ) → x < n → Contains list x
   pub each : IsInOrder Before n list
+
+-- the numbers can be ranked so that each comes after all that come before it: nothing goes in a circle
+abbrev pub HasNoCircle : (ℕ → ℕ → Type 0) → Type 0
+HasNoCircle Before = (rank : ℕ → ℕ) × ((a b : ℕ) → Before a b → rank a < rank b)

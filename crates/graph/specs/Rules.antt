@@ -1,22 +1,11 @@
 -- The rules for the single entries of a net.
-use Rattle.std.specs.Prelude.{◌≡◌, ℕ, ◌+◌, ◌^◌, ◌<◌, ◌≤◌, List, length, All, slice_index}
-use Rattle.mars_base.specs.Shape.{least_round_of}
-use Rattle.mars_base.specs.declared.shape.ClusterShape.{ClusterShape}
+use Rattle.std.specs.Prelude.{◌≡◌, ℕ, ◌+◌, ◌^◌, ◌<◌, ◌≤◌, length, All, slice_index}
 use Rattle.graph.specs.declared.net.Net.{Net}
 use Rattle.graph.specs.declared.net.NetTask.{NetTask}
 use Rattle.graph.specs.declared.net.Transaction.{Transaction}
 use Rattle.graph.specs.declared.net.Edge.{Edge}
 use Rattle.graph.specs.declared.net.Plug.{Plug}
 use Rattle.graph.specs.Net.{transaction_of, ins_of, outs_of}
-
--- the cluster's numbers are in their limits, and the slots of all units fit in a round
-pub record IsShape (s : ClusterShape) : Type 0 where
-  pub units : (1 ≤ s.units) × (s.units ≤ 8)
-  pub slot_words : (2 ≤ s.slot_words) × (s.slot_words ≤ 64)
-  pub precision : (1 ≤ s.precision) × (s.precision ≤ 8)
-  pub cycles_per_tick : (1 ≤ s.cycles_per_tick) × (s.cycles_per_tick ≤ 10000)
-  pub round : s.round ≤ 65536
-  pub fits : least_round_of s.units s.slot_words s.precision ≤ s.round
 
 -- a port has 1 to 16 words
 abbrev pub IsWidth : ℕ → Type 0

@@ -1,13 +1,16 @@
 -- When a net is sound.
-use Rattle.std.specs.Prelude.{◌≡◌, ℕ, ◌<◌, ◌≤◌, List, length, All, Any}
+use Rattle.std.specs.Prelude.{◌≡◌, ℕ, ◌<◌, ◌≤◌, length, All, Any}
 use Rattle.graph.specs.declared.net.Net.{Net}
 use Rattle.graph.specs.declared.net.NetTask.{NetTask}
 use Rattle.graph.specs.declared.net.Transaction.{Transaction}
-use Rattle.graph.specs.declared.net.Edge.{Edge}
 use Rattle.graph.specs.declared.net.Plug.{Plug}
+use Rattle.mars_base.specs.Shape.{IsShape}
+use Rattle.graph.specs.declared.feeder.Feeder.{Feeder}
 use Rattle.graph.specs.Name.{AreNames}
-use Rattle.graph.specs.Net.{ins_of, feeds_to}
-use Rattle.graph.specs.Rules.{IsShape, IsTask, IsTransaction, IsEdge, IsSensor, IsActuator}
+use Rattle.graph.specs.Net.{ins_of, Feeds}
+use Rattle.graph.specs.Order.{HasNoCircle}
+use Rattle.graph.specs.Feeders.{IsOnlyFeeder}
+use Rattle.graph.specs.Rules.{IsTask, IsTransaction, IsEdge, IsSensor, IsActuator}
 use Rattle.graph.specs.Cycle.{IsWithinLimits}
 
 -- no section has too many entries, and there are tasks and transactions
@@ -31,7 +34,7 @@ pub record HasEntries (net : Net) : Type 0 where
 
 -- each in port is fed by exactly one edge or sensor
 abbrev pub IsFedOnce : Net → Type 0
-IsFedOnce net = (task port : ℕ) → port < length (ins_of net task) → feeds_to net task port ≡ 1
+IsFedOnce net = (task port : ℕ) → port < length (ins_of net task) → (f : Feeder) × IsOnlyFeeder net task port f
 
 -- the names in each section have their form and differ
 pub record HasNames (net : Net) : Type 0 where
@@ -48,14 +51,11 @@ pub record KeepsEntryRules (net : Net) : Type 0 where
   pub fed : IsFedOnce net
   pub names : HasNames net
 
--- no edges go in a circle: the tasks can be ranked so that each edge goes up
-abbrev pub HasNoCircle : Net → Type 0
-HasNoCircle net = (rank : ℕ → ℕ) × All (λ (e : Edge). rank e.from_task < rank e.to_task) net.edges
-
 -- the net keeps all rules, but maybe not the limits of a cycle
 pub record KeepsRules (net : Net) : Type 0 where
   pub entry_rules : KeepsEntryRules net
-  pub no_circle : HasNoCircle net
+  -- no edges go in a circle: the tasks can be ranked so that each edge goes up
+  pub no_circle : HasNoCircle (Feeds net)
 
 -- the net keeps all rules, and its cycle is within the limits
 pub record IsSound (net : Net) : Type 0 where

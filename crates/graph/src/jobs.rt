@@ -1,12 +1,11 @@
 //! The jobs of a cycle.
 ghost use Rattle.std.specs.Prelude.{◌≡◌, ◌<◌, ◌≤◌, ◌++◌, All, IfOk, OnOk, length, map, slice_index};
 ghost use Rattle.graph.specs.declared.job.Job.{Job};
-ghost use Rattle.graph.specs.Net.{period_of, instances};
+ghost use Rattle.graph.specs.Net.{instances};
 ghost use Rattle.graph.specs.Sound.{HasCounts, HasEntries};
 ghost use Rattle.graph.specs.Jobs.{jobs_of_task, jobs_of};
 
 use crate::job::Job;
-use crate::limits::{deadline_of, instances, period_of};
 use crate::net::Net;
 use mars_base::Memory;
 use std::alloc::Global;
@@ -25,10 +24,10 @@ fn push_jobs(
     requires ticks { cycle ≤ 65536 }
     ensures { OnOk result (jobs.new.items ≡ jobs.old.items ++ jobs_of_task net.now lengths.now task (instances net.now cycle task)) }
 {
-    let period = period_of(net, task);
-    let deadline = deadline_of(net, task);
+    let period = net.period_of(task);
+    let deadline = net.deadline_of(task);
     let length = lengths[usize::from(task)];
-    for instance in 0..instances(net, cycle, task) {
+    for instance in 0..net.instances(cycle, task) {
         let release = instance * period;
         jobs.push(Job {
             task,

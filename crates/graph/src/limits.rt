@@ -1,15 +1,14 @@
 //! How long a cycle is, and how much it holds.
 ghost use Rattle.std.specs.Prelude.{◌≡◌, ◌+◌, ◌*◌, ◌<◌, ◌≤◌, ◌^◌, [], ◌∷◌, length, MatchResult};
 ghost use Rattle.std.specs.Int.{IsGcd};
-ghost use Rattle.graph.specs.Net.{period_of, deadline_of, instances};
-ghost use Rattle.graph.specs.Rules.{IsShape};
+ghost use Rattle.graph.specs.Net.{period_of};
+ghost use Rattle.mars_base.specs.Shape.{IsShape};
 ghost use Rattle.graph.specs.Sound.{HasCounts, HasEntries};
 ghost use Rattle.graph.specs.Cycle.{IsLeastMultiple, IsCycle, job_count, sensor_words, words_of_sensor, IsWithinLimits};
 ghost use Rattle.graph.specs.Faults.{PassesLimit};
 
 use crate::job::GraphFault;
 use crate::net::{Net, Plug};
-use crate::rules::{ins_of, transaction_of};
 
 /// The most ticks of a cycle.
 const MOST_TICKS: u64 = 65_536;
@@ -42,34 +41,6 @@ fn least_multiple(a: u32, b: u32) -> u64
     u64::from(a) / common * u64::from(b)
 }
 
-/// The period of a task: its transaction's.
-pub(crate) fn period_of(net: &Net, task: u8) -> u32
-    ensures { result ≡ period_of net.now task }
-{
-    match net.transactions.get(usize::from(transaction_of(net, task))) {
-        Some(transaction) => transaction.period,
-        None => 0,
-    }
-}
-
-/// The deadline of a task: its transaction's.
-pub(crate) fn deadline_of(net: &Net, task: u8) -> u32
-    ensures { result ≡ deadline_of net.now task }
-{
-    match net.transactions.get(usize::from(transaction_of(net, task))) {
-        Some(transaction) => transaction.deadline,
-        None => 0,
-    }
-}
-
-/// How many jobs a task has in a cycle.
-pub(crate) fn instances(net: &Net, cycle: u32, task: u8) -> u32
-    requires { 1 ≤ period_of net.now task }
-    ensures { result ≡ instances net.now cycle task }
-{
-    cycle / period_of(net, task)
-}
-
 /// The ticks of a cycle, or the first value past the most.
 fn cycle_of(net: &Net) -> Result<u32, GraphFault>
     requires shape { IsShape net.now.shape }
@@ -95,7 +66,7 @@ fn count_jobs(net: &Net, cycle: u32) -> u64
 {
     let mut jobs = 0;
     for task in 0..net.tasks.len() as u8 {
-        jobs += u64::from(instances(net, cycle, task));
+        jobs += u64::from(net.instances(cycle, task));
     }
     jobs
 }
@@ -105,11 +76,11 @@ fn words_of_sensor(net: &Net, cycle: u32, sensor: &Plug) -> u64
     ensures words { result ≡ words_of_sensor net.now cycle sensor.now }
     ensures few { result < 2 ^ 40 }
 {
-    let width = match ins_of(net, sensor.task).get(usize::from(sensor.port)) {
+    let width = match net.ins_of(sensor.task).get(usize::from(sensor.port)) {
         Some(width) => u64::from(*width),
         None => 0,
     };
-    width * u64::from(instances(net, cycle, sensor.task))
+    width * u64::from(net.instances(cycle, sensor.task))
 }
 
 /// How many sensor words a cycle has.

@@ -1,17 +1,12 @@
 //! The names of the entries of a section.
-ghost use Rattle.std.specs.Prelude.{◌≡◌, ◌↔◌, List, ℕ, IsTrue, All, Any};
-ghost use Rattle.graph.specs.Name.{IsNameStart, IsNameByte, IsName, Differ, AreNames};
+ghost use Rattle.std.specs.Prelude.{◌↔◌, IsTrue, IfOk, All};
+ghost use Rattle.mars_base.specs.Name.{IsName};
+ghost use Rattle.graph.specs.Name.{Differ, AreNames};
 
 use crate::net::{NetTask, Plug, Transaction};
-
-/// An entry of a section.
-pub(crate) trait Named {
-    /// Its name's bytes.
-    ghost name_of: { Self → List ℕ };
-
-    fn name(&self) -> &[u8]
-        ensures { result.now ≡ name_of self.now };
-}
+use distinct_names::{Named, first_repeat};
+use mars_base::{Memory, is_name};
+use std::alloc::Global;
 
 impl Named for NetTask {
     ghost name_of = { λ t. t.name };
@@ -37,53 +32,23 @@ impl Named for Plug {
     }
 }
 
-fn is_start(byte: u8) -> bool
-    ensures { IsTrue result ↔ IsNameStart byte }
-{
-    byte.is_ascii_uppercase() || byte.is_ascii_lowercase() || byte == b'_'
-}
-
-fn is_name_byte(byte: u8) -> bool
-    ensures { IsTrue result ↔ IsNameByte byte }
-{
-    is_start(byte) || byte.is_ascii_digit()
-}
-
-fn is_name(name: &[u8]) -> bool
-    ensures { IsTrue result ↔ IsName name.now }
-{
-    let Some(first) = name.first() else {
-        return false;
-    };
-    is_start(*first) && name.iter().all(|byte| is_name_byte(*byte)) && name.len() <= 31
-}
-
 fn all_names<T: Named>(entries: &[T]) -> bool
     ensures { IsTrue result ↔ All (λ e. IsName (T.name_of e)) entries.now }
 {
     entries.iter().all(|entry| is_name(entry.name()))
 }
 
-fn has_name<T: Named>(entries: &[T], name: &[u8]) -> bool
-    ensures { IsTrue result ↔ Any (λ e. T.name_of e ≡ name.now) entries.now }
+/// Whether no two entries have the same name.
+fn differ<T: Named>(alloc: Global, entries: &[T]) -> Result<bool, Memory>
+    ensures { IfOk result (λ answer. IsTrue answer ↔ Differ T.name_of entries.now) }
 {
-    entries.iter().any(|entry| entry.name() == name)
-}
-
-fn differ<T: Named>(entries: &[T]) -> bool
-    ensures { IsTrue result ↔ Differ T.name_of entries.now }
-{
-    for (place, entry) in entries.iter().enumerate() {
-        if has_name(&entries[place + 1..], entry.name()) {
-            return false;
-        }
-    }
-    true
+    let found = first_repeat(alloc, entries)?;
+    Ok(found.is_none())
 }
 
 /// Whether each entry's name has its form and no two are the same.
-pub(crate) fn are_names<T: Named>(entries: &[T]) -> bool
-    ensures { IsTrue result ↔ AreNames T.name_of entries.now }
+pub(crate) fn are_names<T: Named>(alloc: Global, entries: &[T]) -> Result<bool, Memory>
+    ensures { IfOk result (λ answer. IsTrue answer ↔ AreNames T.name_of entries.now) }
 {
-    all_names(entries) && differ(entries)
+    Ok(all_names(entries) && differ(alloc, entries)?)
 }

@@ -2,8 +2,8 @@
 ghost use Rattle.std.specs.Prelude.{◌≡◌, ℕ, ◌+◌, ◌<◌, ◌≤◌, ◌^◌, ◌↔◌, IsTrue, IfOk, IfSome, IfNone, MatchOption, length, slice_index};
 ghost use Rattle.std.specs.Int.{bit_at};
 ghost use Rattle.graph.specs.Net.{Feeds, instances};
-ghost use Rattle.graph.specs.Sound.{HasCounts, HasEntries, HasNoCircle};
-ghost use Rattle.graph.specs.Order.{IsOrder};
+ghost use Rattle.graph.specs.Sound.{HasCounts, HasEntries};
+ghost use Rattle.graph.specs.Order.{IsOrder, HasNoCircle};
 ghost use Rattle.graph.specs.Masks.{AreMasks, IsOpen};
 
 use crate::net::Net;
@@ -61,7 +61,7 @@ fn first_open(masks: &[u64; 64], named: u64, count: u8) -> Option<u8>
 pub(crate) fn order_tasks(alloc: Global, net: &Net) -> Result<Option<Vec<u8>>, Memory>
     requires counts { HasCounts net.now }
     requires entries { HasEntries net.now }
-    ensures { IfOk result (λ order. MatchOption order (HasNoCircle net.now → ⊥) (λ tasks. IsOrder (Feeds net.now) (length net.now.tasks) tasks.items)) }
+    ensures { IfOk result (λ order. MatchOption order (HasNoCircle (Feeds net.now) → ⊥) (λ tasks. IsOrder (Feeds net.now) (length net.now.tasks) tasks.items)) }
 {
     let masks = producers(net);
     let count = net.tasks.len() as u8;

@@ -1,29 +1,14 @@
 //! The rules for the single entries of a net.
-ghost use Rattle.std.specs.Prelude.{◌≡◌, ℕ, ◌<◌, ◌≤◌, ◌↔◌, IsTrue, All, Any, length};
+ghost use Rattle.std.specs.Prelude.{◌≡◌, ℕ, ◌<◌, ◌↔◌, IsTrue, IfOk, All, Any, length};
+ghost use Rattle.mars_base.specs.Shape.{IsShape};
 ghost use Rattle.graph.specs.declared.net.NetTask.{NetTask};
-ghost use Rattle.graph.specs.Net.{transaction_of, ins_of, outs_of, feeds_to};
-ghost use Rattle.graph.specs.Rules.{IsShape, IsWidth, IsTask, IsTransaction, IsEdge, IsSensor, IsActuator};
-ghost use Rattle.graph.specs.Sound.{HasCounts, HasEntries, IsFedOnce, HasNames};
+ghost use Rattle.graph.specs.Rules.{IsWidth, IsTask, IsTransaction, IsEdge, IsSensor, IsActuator};
+ghost use Rattle.graph.specs.Sound.{HasCounts, HasEntries, HasNames};
 
 use crate::names::are_names;
 use crate::net::{Edge, Net, NetTask, Plug, Transaction};
-use mars_base::{ClusterShape, least_round};
-
-/// Whether the cluster's numbers are in their limits and all slots fit in a round.
-pub(crate) fn is_shape(shape: &ClusterShape) -> bool
-    ensures { IsTrue result ↔ IsShape shape.now }
-{
-    1 <= shape.units
-        && shape.units <= 8
-        && 2 <= shape.slot_words
-        && shape.slot_words <= 64
-        && 1 <= shape.precision
-        && shape.precision <= 8
-        && 1 <= shape.cycles_per_tick
-        && shape.cycles_per_tick <= 10_000
-        && shape.round <= 65_536
-        && least_round(shape.units, shape.slot_words, shape.precision) <= shape.round
-}
+use mars_base::Memory;
+use std::alloc::Global;
 
 /// Whether no section has too many entries, and there are tasks and transactions.
 pub(crate) fn has_counts(net: &Net) -> bool
@@ -36,33 +21,6 @@ pub(crate) fn has_counts(net: &Net) -> bool
         && net.edges.len() <= 1024
         && net.sensors.len() <= 1024
         && net.actuators.len() <= 1024
-}
-
-pub(crate) fn transaction_of(net: &Net, task: u8) -> u8
-    ensures { result ≡ transaction_of net.now task }
-{
-    match net.tasks.get(usize::from(task)) {
-        Some(task) => task.transaction,
-        None => 0,
-    }
-}
-
-pub(crate) fn ins_of(net: &Net, task: u8) -> &[u8]
-    ensures { result.now ≡ ins_of net.now task }
-{
-    match net.tasks.get(usize::from(task)) {
-        Some(task) => task.ins.as_slice(),
-        None => &[],
-    }
-}
-
-fn outs_of(net: &Net, task: u8) -> &[u8]
-    ensures { result.now ≡ outs_of net.now task }
-{
-    match net.tasks.get(usize::from(task)) {
-        Some(task) => task.outs.as_slice(),
-        None => &[],
-    }
 }
 
 fn are_widths(ports: &[u8]) -> bool
@@ -96,11 +54,11 @@ fn is_transaction(transaction: &Transaction) -> bool
 fn is_edge(net: &Net, edge: &Edge) -> bool
     ensures { IsTrue result ↔ IsEdge net.now edge.now }
 {
-    let outs = outs_of(net, edge.from_task);
-    let ins = ins_of(net, edge.to_task);
+    let outs = net.outs_of(edge.from_task);
+    let ins = net.ins_of(edge.to_task);
     usize::from(edge.from_task) < net.tasks.len()
         && usize::from(edge.to_task) < net.tasks.len()
-        && transaction_of(net, edge.from_task) == transaction_of(net, edge.to_task)
+        && net.transaction_of(edge.from_task) == net.transaction_of(edge.to_task)
         && usize::from(edge.from_port) < outs.len()
         && usize::from(edge.to_port) < ins.len()
         && outs[usize::from(edge.from_port)] == ins[usize::from(edge.to_port)]
@@ -110,14 +68,14 @@ fn is_sensor(net: &Net, sensor: &Plug) -> bool
     ensures { IsTrue result ↔ IsSensor net.now sensor.now }
 {
     usize::from(sensor.task) < net.tasks.len()
-        && usize::from(sensor.port) < ins_of(net, sensor.task).len()
+        && usize::from(sensor.port) < net.ins_of(sensor.task).len()
 }
 
 fn is_actuator(net: &Net, actuator: &Plug) -> bool
     ensures { IsTrue result ↔ IsActuator net.now actuator.now }
 {
     usize::from(actuator.task) < net.tasks.len()
-        && usize::from(actuator.port) < outs_of(net, actuator.task).len()
+        && usize::from(actuator.port) < net.outs_of(actuator.task).len()
 }
 
 fn is_used(tasks: &[NetTask], transaction: usize) -> bool
@@ -191,61 +149,14 @@ pub(crate) fn has_entries(net: &Net) -> bool
         && are_actuators(net)
 }
 
-/// How many edges and sensors feed an in port.
-fn feeds_to(net: &Net, task: u8, port: u8) -> usize
-    requires { HasCounts net.now }
-    ensures { result ≡ feeds_to net.now task port }
-{
-    let edges = net
-        .edges
-        .as_slice()
-        .iter()
-        .filter(|edge| edge.to_task == task && edge.to_port == port)
-        .count();
-    let sensors = net
-        .sensors
-        .as_slice()
-        .iter()
-        .filter(|sensor| sensor.task == task && sensor.port == port)
-        .count();
-    edges + sensors
-}
-
-fn is_task_fed(net: &Net, task: u8) -> bool
-    requires counts { HasCounts net.now }
-    requires ports { length (ins_of net.now task) ≤ 16 }
-    ensures { IsTrue result ↔ ((port : ℕ) → port < length (ins_of net.now task) → feeds_to net.now task port ≡ 1) }
-{
-    let ports = ins_of(net, task).len() as u8;
-    for port in 0..ports {
-        if feeds_to(net, task, port) != 1 {
-            return false;
-        }
-    }
-    true
-}
-
-/// Whether each in port is fed by exactly one edge or sensor.
-pub(crate) fn is_fed_once(net: &Net) -> bool
-    requires counts { HasCounts net.now }
-    requires entries { HasEntries net.now }
-    ensures { IsTrue result ↔ IsFedOnce net.now }
-{
-    let tasks = net.tasks.len() as u8;
-    for task in 0..tasks {
-        if !is_task_fed(net, task) {
-            return false;
-        }
-    }
-    true
-}
-
 /// Whether the names in each section have their form and differ.
-pub(crate) fn has_names(net: &Net) -> bool
-    ensures { IsTrue result ↔ HasNames net.now }
+pub(crate) fn has_names(alloc: Global, net: &Net) -> Result<bool, Memory>
+    ensures { IfOk result (λ answer. IsTrue answer ↔ HasNames net.now) }
 {
-    are_names(net.tasks.as_slice())
-        && are_names(net.transactions.as_slice())
-        && are_names(net.sensors.as_slice())
-        && are_names(net.actuators.as_slice())
+    Ok(
+        are_names(alloc, net.tasks.as_slice())?
+            && are_names(alloc, net.transactions.as_slice())?
+            && are_names(alloc, net.sensors.as_slice())?
+            && are_names(alloc, net.actuators.as_slice())?,
+    )
 }

@@ -7,13 +7,12 @@ ghost use Rattle.graph.specs.Order.{IsOrder};
 ghost use Rattle.graph.specs.Jobs.{IsProducer, job_number};
 ghost use Rattle.graph.specs.Blocks.{IsBlock, HasCome};
 
-use crate::limits::instances;
 use crate::net::Net;
 use mars_base::Memory;
 use std::alloc::Global;
 
 /// The number of each task's first job.
-fn first_jobs(alloc: Global, net: &Net, cycle: u32) -> Result<Vec<u16>, Memory>
+pub(crate) fn first_jobs(alloc: Global, net: &Net, cycle: u32) -> Result<Vec<u16>, Memory>
     requires counts { HasCounts net.now }
     requires entries { HasEntries net.now }
     requires jobs { job_count net.now cycle ≤ 512 }
@@ -24,7 +23,7 @@ fn first_jobs(alloc: Global, net: &Net, cycle: u32) -> Result<Vec<u16>, Memory>
     let mut next = 0u16;
     for task in 0..net.tasks.len() as u8 {
         firsts.push(next)?;
-        next += instances(net, cycle, task) as u16;
+        next += net.instances(cycle, task) as u16;
     }
     Ok(firsts)
 }
@@ -99,7 +98,7 @@ fn push_block(
     requires come { HasCome net.now cycle tasks.now order.old.items from to from 0 }
     ensures { OnOk result (HasCome net.now cycle tasks.now order.new.items to to to 0) }
 {
-    for instance in 0..instances(net, cycle, tasks[from]) {
+    for instance in 0..net.instances(cycle, tasks[from]) {
         push_instance(order, net, cycle, firsts, tasks, from, to, instance)?;
     }
     Ok(())
@@ -111,20 +110,22 @@ pub(crate) fn order_jobs(
     alloc: Global,
     net: &Net,
     cycle: u32,
+    firsts: &[u16],
     tasks: &[u8],
 ) -> Result<Vec<u16>, Memory>
     requires counts { HasCounts net.now }
     requires entries { HasEntries net.now }
     requires jobs { job_count net.now cycle ≤ 512 }
+    requires size { length firsts.now ≡ length net.now.tasks }
+    requires firsts { (t : ℕ) → t < length net.now.tasks → slice_index firsts.now t ≡ first_job net.now cycle t }
     requires tasks { IsOrder (Feeds net.now) (length net.now.tasks) tasks.now }
     ensures { IfOk result (λ order. IsOrder (IsProducer net.now cycle) (job_count net.now cycle) order.items) }
 {
-    let firsts = first_jobs(alloc, net, cycle)?;
     let mut order = Vec::new(alloc);
     let mut from = 0;
     while from < tasks.len() {
         let to = block_end(tasks, from);
-        push_block(&mut order, net, cycle, firsts.as_slice(), tasks, from, to)?;
+        push_block(&mut order, net, cycle, firsts, tasks, from, to)?;
         from = to;
     }
     Ok(order)

@@ -3,34 +3,41 @@ ghost use Rattle.std.specs.Prelude.{◌↔◌, ℕ, IsTrue, IfOk};
 ghost use Rattle.graph.specs.Cycle.{IsWithinLimits};
 ghost use Rattle.graph.specs.Sound.{IsSound, KeepsEntryRules, KeepsRules};
 
+use crate::feeds::is_fed_once;
 use crate::limits::cycle_within;
 use crate::net::Net;
 use crate::order::order_tasks;
-use crate::rules::{has_counts, has_entries, has_names, is_fed_once, is_shape};
-use mars_base::Memory;
+use crate::rules::{has_counts, has_entries, has_names};
+use mars_base::{Memory, is_shape};
 use std::alloc::Global;
 
 /// Whether the net keeps all rules but those on circles and on the limits of a cycle.
-fn keeps_entry_rules(net: &Net) -> bool
-    ensures { IsTrue result ↔ KeepsEntryRules net.now }
+fn keeps_entry_rules(alloc: Global, net: &Net) -> Result<bool, Memory>
+    ensures { IfOk result (λ answer. IsTrue answer ↔ KeepsEntryRules net.now) }
 {
     if !is_shape(&net.shape) {
-        return false;
+        return Ok(false);
     }
     if !has_counts(net) {
-        return false;
+        return Ok(false);
     }
     if !has_entries(net) {
-        return false;
+        return Ok(false);
     }
-    is_fed_once(net) && has_names(net)
+    if !is_fed_once(alloc, net)? {
+        return Ok(false);
+    }
+    if !has_names(alloc, net)? {
+        return Ok(false);
+    }
+    Ok(true)
 }
 
 /// Whether the net keeps all rules, but maybe not the limits of a cycle.
 pub(crate) fn keeps_rules(alloc: Global, net: &Net) -> Result<bool, Memory>
     ensures { IfOk result (λ answer. IsTrue answer ↔ KeepsRules net.now) }
 {
-    if !keeps_entry_rules(net) {
+    if !keeps_entry_rules(alloc, net)? {
         return Ok(false);
     }
     let Some(_order) = order_tasks(alloc, net)? else {

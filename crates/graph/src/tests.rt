@@ -1,5 +1,5 @@
 use crate::soundness::keeps_rules;
-use crate::{Edge, Graph, GraphFault, Net, NetTask, Plug, Transaction, sound};
+use crate::{Edge, Feeder, Graph, GraphFault, Net, NetTask, Plug, Transaction, length_of, sound};
 use mars_base::{ClusterShape, Memory, Text};
 use sqlite_items::Items;
 use std::alloc::Global;
@@ -225,6 +225,10 @@ fn soundness_is_exact(rt: HostRuntime) -> Result<(), Fail> {
     let mut twice = back(alloc)?;
     twice.sensors.push(plug(alloc, "r", 0)?)?;
     assert!(rt; !sound(alloc, &twice)?, "a port fed twice");
+    let mut same = two(alloc)?;
+    same.sensors.push(plug(alloc, "s", 1)?)?;
+    same.edges = Items::new(alloc);
+    assert!(rt; !sound(alloc, &same)?, "two sensors of one name");
     let mut never = two(alloc)?;
     never.edges = Items::new(alloc);
     assert!(rt; !sound(alloc, &never)?, "a port that nothing feeds");
@@ -263,4 +267,48 @@ fn a_plant_has_18_jobs(rt: HostRuntime) -> Result<(), Fail> {
     assert_eq!(rt; jobs.remaining(0), 7);
     assert_eq!(rt; jobs.latest_start(1), 193);
     Ok(())
+}
+
+#[test]
+fn a_net_names_its_parts(rt: HostRuntime) -> Result<(), Fail> {
+    let alloc = rt.alloc();
+    let net = two(alloc)?;
+    assert_eq!(rt; net.transaction_of(1), 0);
+    assert_eq!(rt; net.units_of(1), 2);
+    assert!(rt; net.allows(1, 1) && !net.allows(1, 0));
+    assert_eq!(rt; net.ins_of(0), [1].as_slice());
+    assert_eq!(rt; net.outs_of(2), [].as_slice());
+    assert_eq!(rt; net.width_of(&edge(0, 1)), 1);
+    assert_eq!(rt; net.deadline_of(0), 24);
+    let net = back(alloc)?;
+    assert_eq!(rt; net.period_of(0), 6);
+    assert!(rt; keeps_rules(alloc, &net)?);
+    assert_eq!(rt; net.instances(12, 1), 2);
+    Ok(())
+}
+
+#[test]
+fn a_graph_has_tables(rt: HostRuntime) -> Result<(), Fail> {
+    let alloc = rt.alloc();
+    let net = back(alloc)?;
+    let jobs = graph(&rt, alloc, &net, &[1, 2])?;
+    assert_eq!(rt; jobs.feeder(0, 0), Some(Feeder::Edge(0)));
+    assert_eq!(rt; jobs.feeder(1, 0), Some(Feeder::Sensor(0)));
+    assert_eq!(rt; jobs.feeder(1, 1), None);
+    Ok(())
+}
+
+#[test]
+fn lengths_are_rounded_up(rt: HostRuntime) {
+    let rows = [
+        (7, 7, 1),
+        (18, 7, 3),
+        (156, 40, 4),
+        (51, 40, 2),
+        (14, 40, 1),
+        (0, 7, 1),
+    ];
+    for (maxt, cycles_per_tick, ticks) in rows {
+        assert_eq!(rt; length_of(maxt, cycles_per_tick), ticks);
+    }
 }

@@ -1,5 +1,5 @@
 use Rattle.std.proofs.Common.{◌≡◌, ◌+◌, ◌*◌, ◌^◌, ◌≤◌, drop}
-use Rattle.graph.specs.Cycle.{words_of_sensors, sensor_words}
+use Rattle.graph.specs.Cycle.{words_of_sensors}
 use Rattle.graph.proofs.limits.count_words.Given as goal
 
 abbrev pub invariant-loop-sensor : goal.invariant-loop-sensor

@@ -1,9 +1,8 @@
-use Rattle.std.proofs.Common.{◌≡◌, ℕ, ◌+◌, ◌<◌, ◌≤◌, ◌^◌, ◌↔◌, ◌∙◌, ◌∷◌, ◌++◌, [], inl, inr, length, get_or, refl, sym, ap, subst, arith, length-append}
+use Rattle.std.proofs.Common.{◌≡◌, ℕ, ◌+◌, ◌<◌, ◌↔◌, ◌∙◌, ◌∷◌, [], inl, inr, length, ap, arith, length-append}
 use Rattle.std.proofs.lemmas.Bool.{cases_lt}
 use Rattle.graph.specs.Net.{Feeds}
-use Rattle.graph.specs.Order.{IsReady, IsNext, IsInOrder}
+use Rattle.graph.specs.Order.{IsReady, IsNext}
 use Rattle.graph.specs.Masks.{IsOpen}
-use Rattle.graph.specs.TaskOrder.{HasNamed}
 use Rattle.graph.proofs.Masks.{open_ready, named_more}
 use Rattle.graph.proofs.Circles.{circle}
 use Rattle.graph.proofs.Listed.{in_order_push, whole_from_size}

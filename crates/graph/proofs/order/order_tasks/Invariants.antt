@@ -1,4 +1,4 @@
-use Rattle.graph.specs.TaskOrder.{HasNamed}
+use Rattle.graph.proofs.TaskOrder.{HasNamed}
 use Rattle.graph.proofs.order.order_tasks.Given as goal
 
 abbrev pub invariant-loop-place : goal.invariant-loop-place

@@ -1,4 +1,4 @@
-use Rattle.std.proofs.Common.{◌≡◌, ◌+◌, ◌<◌, ◌∙◌, length, get_or, take, refl, sym, ap, subst, arith}
+use Rattle.std.proofs.Common.{◌<◌, ◌∙◌, length, get_or, take, refl, ap, subst, arith}
 use Rattle.std.proofs.lemmas.List.{take_more, take_all, length-set}
 use Rattle.graph.specs.declared.net.Edge.{Edge}
 use Rattle.graph.specs.Rules.{IsEdge}

@@ -1,4 +1,4 @@
-use Rattle.std.proofs.Common.{◌≡◌, ◌<◌, ◌≤◌, subst, arith}
+use Rattle.std.proofs.Common.{◌≡◌, subst, arith}
 use Rattle.graph.specs.Blocks.{HasCome}
 use Rattle.graph.proofs.Blocks.{come_place, block_task, block_fits}
 use Rattle.graph.proofs.sequence.push_instance.Goals as goal

@@ -1,14 +1,14 @@
 use Rattle.std.proofs.Common.{refl}
 use Rattle.graph.proofs.soundness.keeps_entry_rules.Goals as goal
 
-pub returns-then-is_fed_once : goal.returns-then-is_fed_once
-returns-then-is_fed_once c = (
-  λ t. record {
+pub returns : goal.returns
+returns c = (
+  λ _. record {
     shape = c.if-not-is_shape.ensures.0 refl;
     counts = c.if-not-has_counts.ensures.0 refl;
     entries = c.if-not-has_entries.ensures.0 refl;
-    fed = c.if-is_fed_once.ensures.0 refl;
-    names = c.has_names.ensures.0 t;
+    fed = (c.in_ok-is_fed_once.ensures {u = tt}).0 c.if-not-branch.false;
+    names = (c.in_ok-has_names.ensures {u = tt}).0 c.if-not-branch-2.false;
   },
-  λ r. c.has_names.ensures.1 r.names,
+  λ _. refl,
 )

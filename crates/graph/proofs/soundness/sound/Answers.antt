@@ -1,4 +1,3 @@
-use Rattle.std.proofs.Common.{◌≡◌, refl}
 use Rattle.graph.specs.Sound.{KeepsRules}
 use Rattle.graph.proofs.soundness.sound.Goals as goal
 

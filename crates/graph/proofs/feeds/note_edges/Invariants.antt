@@ -1,0 +1,5 @@
+use Rattle.graph.specs.FeederTable.{IsTable, IsBefore}
+use Rattle.graph.proofs.feeds.note_edges.Given as goal
+
+abbrev pub invariant-loop-number : goal.invariant-loop-number
+invariant-loop-number l = IsTable l.net l.table.items (IsBefore l.number 0)
