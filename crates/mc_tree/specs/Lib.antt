@@ -13,10 +13,12 @@ pub mod Operators
 pub mod Plain
 pub mod Raw
 pub mod RawPlain
+pub mod RawSize
 pub mod Rules
 pub mod Sites
 pub mod Size
 pub mod Sound
+pub mod Spellable
 pub mod Symbols
 pub mod TaskSites
 pub mod Tokens
