@@ -1,17 +1,17 @@
 -- The loop over declarations.
-use Rattle.std.proofs.Common.{◌≡◌, ℕ, suc, ◌≤◌, ◌<◌, ◌-◌, List, [], ◌∷◌, ◌++◌, length, drop, Option, Some, None, Result, Ok, Err, arith, refl, ap, ◌∙◌, sym, drop-cons, get_or}
+use Rattle.std.proofs.Common.{◌≡◌, ℕ, ◌≤◌, List, [], ◌∷◌, ◌++◌, length, drop, Some, Result, Ok, Err, arith, ◌∙◌}
 use Rattle.std.proofs.lemmas.List.{length-drop}
 use Rattle.mars_base.specs.declared.word.Role.{Role}
 use Rattle.mc_tree.specs.declared.token.Token.{Token}
 use Rattle.mc_tree.specs.declared.raw.RawDecl.{RawDecl}
-use Rattle.mc_reader.specs.declared.cursor.ReadFault.{ReadFault}
-use Rattle.mc_reader.specs.declared.cursor.ReadFault.TheVariants.{Syntax, Memory}
+use Rattle.mc_reader.specs.declared.ReadFault.{ReadFault}
+use Rattle.mc_reader.specs.declared.ReadFault.TheVariants.{Syntax, Memory}
 use Rattle.mc_reader.specs.declared.declaration.Place.{Place}
 use Rattle.mc_reader.specs.Reading.{Got, Good, Bad, Misses}
 use Rattle.mc_reader.specs.Readers.{decl}
 use Rattle.mc_reader.specs.Places.{at_role, decls}
 use Rattle.mc_reader.specs.Answers.{Answers, after}
-use Rattle.mc_reader.proofs.Live.{Any, Live}
+use Rattle.mc_reader.proofs.Live.{Any}
 use Rattle.mc_reader.proofs.LiveTask.{live_decl}
 use Rattle.mc_reader.proofs.LiveLists.{shorter}
 use Rattle.mc_reader.proofs.Loops.{one_more, bad_part, no_more}

@@ -1,8 +1,7 @@
 -- Statements are read exactly.
-use Rattle.std.proofs.Common.{◌≡◌, ℕ, zero, suc, ◌+◌, ◌<◌, ◌≤◌, List, [], ◌∷◌, ◌++◌, length, Option, Some, None, Bool, true, false, arith, refl, ap, ◌∙◌, sym, subst, ◌⊎◌, inl, inr}
+use Rattle.std.proofs.Common.{◌≡◌, ℕ, zero, suc, ◌+◌, ◌<◌, ◌≤◌, List, [], ◌∷◌, Option, Some, None, Bool, true, false, arith, refl, ap, ◌∙◌, sym, subst, inl, inr}
 use Rattle.mars_base.specs.declared.text.Span.{Span}
 use Rattle.mc_tree.specs.declared.raw.Name.{Name}
-use Rattle.mc_tree.specs.declared.raw.RawNumber.{RawNumber}
 use Rattle.mc_tree.specs.declared.token.Key.{Key}
 use Rattle.mc_tree.specs.declared.token.Key.TheVariants as K
 use Rattle.mc_tree.specs.declared.token.Sign.{Sign}
@@ -10,20 +9,19 @@ use Rattle.mc_tree.specs.declared.token.Sign.TheVariants as S
 use Rattle.mc_tree.specs.declared.token.Token.{Token}
 use Rattle.mc_tree.specs.declared.token.TokenKind.{TokenKind}
 use Rattle.mc_tree.specs.declared.token.TokenKind.TheVariants as T
-use Rattle.mc_tree.specs.Raw.{Ex, join, St, Set, SetAt, Call, If, While, Scope, Mark, Sequence, Bl, Nil, Then, Else, Nothing, Otherwise}
+use Rattle.mc_tree.specs.Raw.{Ex, join, St, Set, SetAt, Call, If, While, Scope, Mark, Sequence, Bl, Nil, Then, Nothing, Otherwise}
 use Rattle.mc_reader.specs.Roles.{trail, stops, tok}
 use Rattle.mc_tree.specs.Expression.{name_at, IsExpression}
-use Rattle.mc_tree.specs.Grammar.{IsKey, IsSign, IsNumber, IsName, MoreParts, Parts, IsStatement, IsElse, IsBlock}
-use Rattle.mc_reader.specs.Reading.{Got, Good, Bad, next, taken, token, chosen, choice, done, at_end, many}
-use Rattle.mc_reader.specs.Readers.{same_sign, same_key, when, at_sign, at_key, at_number, at_name, sign, key, name, number, value, some_of, listed, next_is, commas, enclosed_by, enclosed, Block, block_of, braces, Right, Value, Called, First, Callee, Goes, called, rights, right, at_first, first_by, first_of_, Wanted, ToAssign, ToIndex, at_wanted, wanted_of, assigned, set_by, if_by, Simple, AName, AMark, Compound, AnIf, AWhile, AScope, ASequence, Begin, Simply, Deeply, simple, at_simple, at_begin, begin_of, simple_of, else_part, compound, branch, statements}
+use Rattle.mc_tree.specs.Grammar.{IsKey, IsSign, IsNumber, IsName, MoreParts, Parts, IsStatement, IsBlock}
+use Rattle.mc_reader.specs.Reading.{Got, Good, Bad, next, taken, chosen, done, many}
+use Rattle.mc_reader.specs.Readers.{same_sign, same_key, when, at_sign, at_key, at_number, at_name, sign, key, name, number, value, commas, enclosed_by, enclosed, Block, block_of, braces, Right, Value, Called, First, Callee, Goes, called, rights, right, at_first, first_by, first_of_, Wanted, ToAssign, ToIndex, at_wanted, wanted_of, assigned, set_by, if_by, Simple, AName, AMark, Compound, AnIf, AWhile, AScope, ASequence, Begin, Simply, Deeply, simple, at_simple, at_begin, begin_of, simple_of, else_part, compound, branch, statements}
 use Rattle.mc_reader.specs.Machine as M
 use Rattle.mc_reader.proofs.Live.{Any, Live, Misses}
 use Rattle.mc_reader.proofs.LiveLists.{FolIs}
 use Rattle.mc_reader.proofs.LiveExpression.{FolStops, exact_expression, want_not_done}
-use Rattle.mc_reader.proofs.Complete.{Stops}
 use Rattle.mc_reader.proofs.ExactLists.{Part, exact_listed}
-use Rattle.mc_reader.proofs.LiveTask.{Closes, closes_item, after_item, item_fits, enclosed_fits, live_value, live_name, name_not, value_not, FolRight, right_fol, not_open, FolSt, FolElse, RestSt, FolSts, rest_fol, not_else, begin_not_else, simple_not_else, rest_sign, live_simple, live_branch, live_braces, live_statements}
-use Rattle.mc_reader.proofs.Firsts.{is_sign, is_key, is_number, is_name, took, Took, sign_first, key_first, stops_first}
+use Rattle.mc_reader.proofs.LiveTask.{Closes, closes_item, item_fits, enclosed_fits, live_value, value_not, FolRight, right_fol, not_open, FolSt, FolElse, RestSt, FolSts, rest_fol, not_else, begin_not_else, simple_not_else, rest_sign, live_simple, live_branch, live_braces, live_statements}
+use Rattle.mc_reader.proofs.Firsts.{is_sign, is_key, is_number, is_name, took, sign_first, stops_first}
 use Rattle.mc_reader.proofs.Exact.{Exact, says, OneToken, Nothing_, Then_, Choice_, Many, exact_token, exact_done, exact_both, exact_next, exact_choice}
 
 pub exact_sign : (s : Sign) → same_sign s s ≡ true → Exact Any (sign s) (IsSign s)

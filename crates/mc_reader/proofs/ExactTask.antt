@@ -1,30 +1,27 @@
 -- Tasks are read exactly.
-use Rattle.std.proofs.Common.{◌≡◌, ℕ, zero, suc, ◌+◌, ◌<◌, ◌≤◌, List, [], ◌∷◌, ◌++◌, length, Option, Some, None, Bool, true, false, arith, refl, ap, ◌∙◌, sym, subst, ◌⊎◌, inl, inr}
+use Rattle.std.proofs.Common.{◌≡◌, ℕ, List, [], ◌∷◌, length, Option, Some, None, arith, refl, ap, ◌∙◌, sym, subst, inl, inr}
 use Rattle.mars_base.specs.declared.text.Span.{Span}
 use Rattle.mars_base.specs.declared.word.Role.{Role}
 use Rattle.mars_base.specs.declared.word.Role.TheVariants as R
 use Rattle.mc_tree.specs.declared.raw.Name.{Name}
 use Rattle.mc_tree.specs.declared.raw.RawNumber.{RawNumber}
 use Rattle.mc_tree.specs.declared.raw.RawDecl.{RawDecl}
-use Rattle.mc_tree.specs.declared.token.Key.{Key}
 use Rattle.mc_tree.specs.declared.token.Key.TheVariants as K
-use Rattle.mc_tree.specs.declared.token.Sign.{Sign}
 use Rattle.mc_tree.specs.declared.token.Sign.TheVariants as S
 use Rattle.mc_tree.specs.declared.token.Token.{Token}
-use Rattle.mc_tree.specs.declared.token.TokenKind.{TokenKind}
 use Rattle.mc_tree.specs.declared.token.TokenKind.TheVariants as T
 use Rattle.mc_tree.specs.Raw.{Ex, join, St, Bl, Func, Body, Task}
-use Rattle.mc_reader.specs.Roles.{trail, stops, tok}
-use Rattle.mc_tree.specs.Expression.{name_at, IsExpression}
-use Rattle.mc_tree.specs.Grammar.{IsKey, IsSign, IsNumber, IsName, IsWidth, Parts, IsBlock, word_of, IsDecl, IsLocal, Declares, Ports, Locals, IsFunc, Funcs, IsBody, IsTask}
-use Rattle.mc_reader.specs.Reading.{Got, Good, Bad, next, token, chosen, choice, done, at_end, many}
-use Rattle.mc_reader.specs.Readers.{at_sign, at_key, at_number, at_name, sign, key, name, number, value, listed, enclosed, width, block_of, statements, decl, at_port, at_local, port_of, local_of, ports, locals, func, funcs, body, task}
-use Rattle.mc_reader.proofs.Live.{Any, Live, Misses, AtEnd}
-use Rattle.mc_reader.proofs.LiveTask.{FolWidth, width_fol, is_local, is_port, live_name, name_not, live_decl, live_func, FolFuncs, FolBody, FolSts, RestSt, func_end, body_end, func_rests, func_no_local, body_rests, body_no_local, fits_locals, tree, last, no_func, no_port, body_fits}
-use Rattle.mc_reader.proofs.Firsts.{is_sign, is_key, sign_first, key_first}
+use Rattle.mc_reader.specs.Roles.{tok}
+use Rattle.mc_tree.specs.Expression.{IsExpression}
+use Rattle.mc_tree.specs.Grammar.{IsKey, IsSign, IsNumber, IsName, IsWidth, Parts, IsBlock, word_of, IsDecl, Ports, Locals, IsFunc, Funcs, IsBody, IsTask}
+use Rattle.mc_reader.specs.Reading.{done}
+use Rattle.mc_reader.specs.Readers.{at_sign, at_key, name, enclosed, width, block_of, decl, at_port, at_local, ports, locals, func, funcs, body, task}
+use Rattle.mc_reader.proofs.Live.{Any, Misses, AtEnd}
+use Rattle.mc_reader.proofs.LiveTask.{FolWidth, width_fol, is_local, is_port, live_name, name_not, live_decl, live_func, FolFuncs, FolBody, func_end, body_end, func_rests, func_no_local, body_rests, body_no_local, fits_locals, tree, no_func, no_port, body_fits}
+use Rattle.mc_reader.proofs.Firsts.{is_sign, is_key, sign_first}
 use Rattle.mc_reader.proofs.Exact.{Exact, says, Nothing_, Then_, Choice_, Many, exact_both, exact_next, exact_choice, exact_end}
 use Rattle.mc_reader.proofs.ExactLists.{Part, exact_listed}
-use Rattle.mc_reader.proofs.ExactStatements.{exact_sign, exact_key, exact_number, exact_name, sign_ex, key_ex, value_ex, done_ex, exact_enclosed, exact_statements, IsSts, list_of, list_block}
+use Rattle.mc_reader.proofs.ExactStatements.{exact_number, exact_name, sign_ex, key_ex, value_ex, done_ex, exact_enclosed, exact_statements, IsSts, list_of, list_block}
 
 exact_width : Exact FolWidth width IsWidth
 exact_width = says (exact_choice (λ p. exact_next exact_number (λ n. sign_ex S.CloseBracket refl (λ q. done_ex FolWidth (Some n)))) (λ ts h. h)) to from

@@ -1,8 +1,6 @@
 -- What the first token is where something is read.
-use Rattle.std.proofs.Common.{◌≡◌, ℕ, zero, suc, List, [], ◌∷◌, length, Option, Some, None, Bool, true, false, arith, refl, ap, ◌∙◌, sym, subst}
+use Rattle.std.proofs.Common.{◌≡◌, ℕ, List, [], ◌∷◌, Option, Some, None, Bool, true, false, refl, ap, ◌∙◌, sym, subst}
 use Rattle.mars_base.specs.declared.text.Span.{Span}
-use Rattle.mars_base.specs.declared.word.Role.{Role}
-use Rattle.mars_base.specs.declared.word.Role.TheVariants as R
 use Rattle.mc_tree.specs.declared.raw.Name.{Name}
 use Rattle.mc_tree.specs.declared.raw.RawNumber.{RawNumber}
 use Rattle.mc_tree.specs.declared.token.Key.{Key}
@@ -14,7 +12,7 @@ use Rattle.mc_tree.specs.declared.token.TokenKind.{TokenKind}
 use Rattle.mc_tree.specs.declared.token.TokenKind.TheVariants as T
 use Rattle.mc_reader.specs.Roles.{trail, stops, tok}
 use Rattle.mc_tree.specs.Expression.{name_at}
-use Rattle.mc_reader.specs.Reading.{Got, Good, Bad, next, taken, token, done}
+use Rattle.mc_reader.specs.Reading.{Got, Good, Bad, next, taken, token}
 use Rattle.mc_reader.specs.Readers.{same_sign, same_key, when, sign_of, key_of, number_of, name_of, at_sign, at_key, at_number, at_name, sign, key}
 use Rattle.mc_reader.proofs.Complete.{Stops}
 

@@ -1,25 +1,22 @@
 -- An expression dies at the first token that no expression can go on with.
-use Rattle.std.proofs.Common.{◌≡◌, ℕ, zero, suc, ◌+◌, ◌<◌, ◌≤◌, List, [], ◌∷◌, ◌++◌, length, Bool, true, false, cond, arith, refl, ap, ◌∙◌, sym, subst}
+use Rattle.std.proofs.Common.{◌≡◌, ℕ, suc, List, [], ◌∷◌, ◌++◌, Bool, true, false, cond, arith, refl, ap, ◌∙◌, sym, subst}
 use Rattle.std.specs.Prelude.{nat_lt, nat_le}
 use Rattle.std.proofs.lemmas.Bool.Decides.{nat_tests}
 use Rattle.mars_base.specs.declared.word.BinOp.{BinOp}
-use Rattle.mars_base.specs.declared.word.BinOp.TheVariants as B
-use Rattle.mars_base.specs.declared.word.UnOp.{UnOp}
 use Rattle.mars_base.specs.declared.text.Span.{Span}
 use Rattle.mc_tree.specs.declared.raw.Name.{Name}
 use Rattle.mc_tree.specs.declared.token.Sign.{Sign}
 use Rattle.mc_tree.specs.declared.token.Sign.TheVariants as S
-use Rattle.mc_tree.specs.declared.token.Key.{Key}
 use Rattle.mc_tree.specs.declared.token.Token.{Token}
 use Rattle.mc_tree.specs.declared.token.TokenKind.{TokenKind}
 use Rattle.mc_tree.specs.declared.token.TokenKind.TheVariants as T
 use Rattle.mc_reader.specs.Reading.{Got, Good, Bad}
-use Rattle.mc_tree.specs.Raw.{Ex, Num, Cell, At, Un, Bin, span_of, join, ops}
+use Rattle.mc_tree.specs.Raw.{Ex, Cell, At, Un, Bin, span_of, join}
 use Rattle.mc_reader.specs.Roles.{level, Lead, lead, Trail, trail, opens, unary, other, binary, closes, indexes, closes_at, ends, comma, other_trail, stops, tok}
-use Rattle.mc_tree.specs.Expression.{IsExpressionIn, IsExpression, number, cell, at, parens, un, bin, name_at, number_at}
+use Rattle.mc_tree.specs.Expression.{IsExpression, number_at}
 use Rattle.mc_reader.specs.Machine.{Frame, Pending, Prefix, Paren, Index, Now, Want, Named, Have, Step, Next, Done, Dead, opened, Top, reduce, deeper, leads, wants, trails, names, has, named, step, then, run, close, close_at, finish}
-use Rattle.mc_reader.proofs.Live.{Any, Went, Died, Trace, Some_, Live}
-use Rattle.mc_reader.proofs.Complete.{name_ends, complete, Follows, Stops, stopped, trails_ends}
+use Rattle.mc_reader.proofs.Live.{Trace, Some_, Live}
+use Rattle.mc_reader.proofs.Complete.{name_ends, complete, Follows, Stops, stopped}
 use Rattle.mc_reader.proofs.Sound.{read_is_spelled}
 use Rattle.mc_reader.proofs.Exact.{Exact}
 

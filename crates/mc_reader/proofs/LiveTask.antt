@@ -1,5 +1,5 @@
 -- Each reader of a task's parts dies at the first token that nothing can go on with.
-use Rattle.std.proofs.Common.{◌≡◌, ℕ, zero, suc, ◌+◌, ◌<◌, ◌≤◌, List, [], ◌∷◌, ◌++◌, length, Option, Some, None, Bool, true, false, arith, refl, ap, ◌∙◌, sym, subst}
+use Rattle.std.proofs.Common.{◌≡◌, ℕ, zero, suc, List, [], ◌∷◌, length, Option, Some, None, Bool, true, false, refl, ap, ◌∙◌, sym, subst}
 use Rattle.mars_base.specs.declared.text.Span.{Span}
 use Rattle.mars_base.specs.declared.word.Role.{Role}
 use Rattle.mars_base.specs.declared.word.Role.TheVariants as R
@@ -13,18 +13,18 @@ use Rattle.mc_tree.specs.declared.token.Sign.TheVariants as S
 use Rattle.mc_tree.specs.declared.token.Token.{Token}
 use Rattle.mc_tree.specs.declared.token.TokenKind.{TokenKind}
 use Rattle.mc_tree.specs.declared.token.TokenKind.TheVariants as T
-use Rattle.mc_tree.specs.Raw.{Ex, join, St, Set, SetAt, Call, If, While, Scope, Mark, Sequence, Bl, Nil, Then, Else, Nothing, Otherwise, Func, Body, Task}
+use Rattle.mc_tree.specs.Raw.{Ex, join, St, Set, SetAt, Call, If, While, Scope, Mark, Sequence, Nothing, Otherwise, Func, Body, Task}
 use Rattle.mc_reader.specs.Roles.{trail, stops, tok}
 use Rattle.mc_tree.specs.Expression.{name_at}
-use Rattle.mc_reader.specs.Reading.{Got, Good, Bad, next, taken, token, chosen, choice, done, at_end, many}
-use Rattle.mc_reader.specs.Readers.{same_sign, same_key, when, at_sign, at_key, at_number, at_name, sign, key, name, number, value, some_of, listed, next_is, commas, enclosed_by, enclosed, width, Block, block_of, braces, Right, Value, Called, First, Callee, Goes, called, rights, right, at_first, Wanted, ToAssign, ToIndex, at_wanted, assigned, set_by, if_by, Simple, AName, AMark, Compound, AnIf, AWhile, AScope, ASequence, Begin, Simply, Deeply, simple, at_simple, at_begin, begin_of, simple_of, else_part, compound, branch, statements, decl, at_port, at_local, port_of, local_of, ports, locals, func, funcs, body, task}
+use Rattle.mc_reader.specs.Reading.{Got, Good, Bad, next, token, done, at_end, many}
+use Rattle.mc_reader.specs.Readers.{same_sign, same_key, when, at_sign, at_key, at_number, at_name, sign, key, name, number, value, next_is, commas, enclosed_by, enclosed, width, Block, block_of, braces, Right, Value, Called, First, Callee, Goes, called, rights, right, at_first, Wanted, ToAssign, ToIndex, at_wanted, assigned, set_by, if_by, Simple, AName, AMark, Compound, AnIf, AWhile, AScope, ASequence, Begin, Simply, Deeply, simple, at_simple, at_begin, else_part, compound, branch, statements, decl, at_port, at_local, port_of, local_of, ports, locals, func, funcs, body, task}
 use Rattle.mc_reader.specs.Machine as M
 use Rattle.mc_tree.specs.Grammar.{word_of}
-use Rattle.mc_reader.proofs.Live.{Any, Trace, Live, Misses, AtEnd, weaken, live_token, live_both, live_next, live_choice, live_done, live_end}
+use Rattle.mc_reader.proofs.Live.{Any, Live, Misses, AtEnd, live_token, live_both, live_next, live_choice, live_end}
 use Rattle.mc_reader.proofs.LiveLists.{done_live, live_map, FolIs, live_next_is, live_listed, no_part}
 use Rattle.mc_reader.proofs.LiveExpression.{FolStops, live_run}
 use Rattle.mc_reader.proofs.Complete.{Stops}
-use Rattle.mc_reader.proofs.Firsts.{is_sign, is_key, Took, took, sign_first, key_first, stops_first}
+use Rattle.mc_reader.proofs.Firsts.{is_sign, is_key, sign_first, key_first, stops_first}
 
 abbrev pub here : Span
 here = record { from = 0; to = 0 }

@@ -1,5 +1,5 @@
 -- Ending operators closes no bracket.
-use Rattle.std.proofs.Common.{◌≡◌, ℕ, suc, List, [], ◌∷◌, Bool, true, false, cond, refl, ap, ◌∙◌, sym}
+use Rattle.std.proofs.Common.{◌≡◌, ℕ, List, [], ◌∷◌, Bool, true, false, cond, refl, ap, ◌∙◌, sym}
 use Rattle.std.specs.Prelude.{nat_le}
 use Rattle.mc_tree.specs.declared.raw.Name.{Name}
 use Rattle.mc_tree.specs.Operators.{level}

@@ -1,13 +1,13 @@
 -- Which tokens spell a task doesn't depend on the text of its names.
-use Rattle.std.proofs.Common.{◌≡◌, ℕ, zero, suc, ◌+◌, ◌<◌, ◌≤◌, List, [], ◌∷◌, ◌++◌, length, Option, Some, None, arith, refl, ap, ◌∙◌, sym, subst}
+use Rattle.std.proofs.Common.{◌≡◌, ℕ, suc, List, [], ◌∷◌, length, Option, Some, None, arith, refl, ap}
 use Rattle.mars_base.specs.declared.text.Span.{Span}
 use Rattle.mars_base.specs.declared.word.Role.{Role}
 use Rattle.mc_tree.specs.declared.raw.Name.{Name}
 use Rattle.mc_tree.specs.declared.raw.RawDecl.{RawDecl}
 use Rattle.mc_tree.specs.declared.token.Token.{Token}
-use Rattle.mc_tree.specs.Raw.{Ex, Num, Cell, At, Un, Bin, span_of, join, ops, St, Set, SetAt, Call, If, While, Scope, Mark, Sequence, Bl, Nil, Then, Else, Nothing, Otherwise, Func, Body, Task}
+use Rattle.mc_tree.specs.Raw.{Ex, Cell, At, Un, Bin, span_of, join, ops, St, Set, SetAt, Call, If, While, Scope, Mark, Sequence, Bl, Nil, Then, Else, Nothing, Otherwise, Func, Body, Task}
 use Rattle.mc_tree.specs.Expression.{name_at, number_at, IsExpressionIn, number, cell, at, parens, un, bin, IsExpression}
-use Rattle.mc_tree.specs.Grammar.{IsName, MoreParts, Parts, IsStatement, IsElse, IsBlock, IsDecl, Declares, IsFunc, Funcs, IsBody, IsTask}
+use Rattle.mc_tree.specs.Grammar.{IsName, MoreParts, Parts, IsStatement, IsElse, IsBlock, Declares, Funcs, IsBody, IsTask}
 
 module _ (a b : List ℕ) where
   ex_text : {o k : ℕ} {ts : List Token} {e : Ex} {rest : List Token} → IsExpressionIn a o k ts e rest → (f : Ex) × IsExpressionIn b o k ts f rest × (ops f ≡ ops e)

@@ -1,5 +1,5 @@
 -- What stands to the right of an equals sign, by its first token.
-use Rattle.std.proofs.Common.{◌≡◌, ℕ, List, [], ◌∷◌, Option, Some, None, refl, ap, ◌∙◌, sym}
+use Rattle.std.proofs.Common.{◌≡◌, ℕ, List, [], ◌∷◌, Some, None, refl, ap, ◌∙◌}
 use Rattle.mars_base.specs.declared.text.Span.{Span}
 use Rattle.mc_tree.specs.declared.raw.Name.{Name}
 use Rattle.mc_tree.specs.declared.token.Token.{Token}
@@ -8,8 +8,8 @@ use Rattle.mc_tree.specs.declared.token.TokenKind.TheVariants as T
 use Rattle.mc_tree.specs.Expression.{name_at}
 use Rattle.mc_tree.specs.Raw.{Ex}
 use Rattle.mc_reader.specs.Roles.{tok}
-use Rattle.mc_reader.specs.Reading.{Got, Good, Bad, Misses, next, taken, done}
-use Rattle.mc_reader.specs.Readers.{at_name, name_of, name, value, Right, Value, Callee, rights, right, first_by}
+use Rattle.mc_reader.specs.Reading.{Good, Bad, Misses, next, taken, done}
+use Rattle.mc_reader.specs.Readers.{at_name, name_of, name, Value, Callee, rights, right, first_by}
 use Rattle.mc_reader.specs.Plain.{as_value}
 use Rattle.mc_reader.specs.Machine as M
 use Rattle.mc_reader.proofs.LiveExpression.{want_not_done}

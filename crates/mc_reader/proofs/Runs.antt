@@ -1,9 +1,9 @@
 -- One turn of the loop over an expression's tokens.
-use Rattle.std.proofs.Common.{◌≡◌, ℕ, suc, ◌+◌, ◌<◌, ◌≤◌, List, [], ◌∷◌, length, drop, get_or, refl, ap, ◌∙◌, sym, drop-cons, add-one}
+use Rattle.std.proofs.Common.{◌≡◌, ℕ, suc, ◌+◌, ◌<◌, ◌≤◌, List, ◌∷◌, length, drop, get_or, refl, ap, ◌∙◌, sym, drop-cons, add-one}
 use Rattle.std.proofs.Math.ListN.{drop_of_length-le}
 use Rattle.mc_tree.specs.declared.token.Token.{Token}
 use Rattle.mc_tree.specs.Raw.{Ex}
-use Rattle.mc_reader.specs.Reading.{Got, Good, Bad}
+use Rattle.mc_reader.specs.Reading.{Good, Bad}
 use Rattle.mc_reader.specs.Machine.{Frame, Now, Step, Next, Done, Dead, step, then, run}
 
 module _ (bytes : List ℕ) (ts : List Token) (i : ℕ) (d : Token) (n : Now) (u : ℕ) (F : List Frame) (lt : i < length ts) where

@@ -1,23 +1,19 @@
 -- What is read is spelled so.
-use Rattle.std.proofs.Common.{◌≡◌, ℕ, zero, suc, ◌+◌, ◌<◌, ◌≤◌, List, [], ◌∷◌, Bool, true, false, cond, arith, refl, ap, ◌∙◌, sym, subst}
+use Rattle.std.proofs.Common.{◌≡◌, ℕ, suc, ◌+◌, ◌<◌, ◌≤◌, List, [], ◌∷◌, Bool, true, false, cond, arith, refl, ap, sym, subst}
 use Rattle.std.specs.Prelude.{nat_lt, nat_le}
 use Rattle.std.proofs.lemmas.Bool.Decides.{nat_tests}
-use Rattle.mars_base.specs.declared.word.BinOp.{BinOp}
-use Rattle.mars_base.specs.declared.word.BinOp.TheVariants as B
-use Rattle.mars_base.specs.declared.word.UnOp.{UnOp}
 use Rattle.mars_base.specs.declared.text.Span.{Span}
 use Rattle.mc_tree.specs.declared.raw.Name.{Name}
 use Rattle.mc_tree.specs.declared.token.Sign.{Sign}
 use Rattle.mc_tree.specs.declared.token.Sign.TheVariants as S
-use Rattle.mc_tree.specs.declared.token.Key.{Key}
 use Rattle.mc_tree.specs.declared.token.Token.{Token}
 use Rattle.mc_tree.specs.declared.token.TokenKind.{TokenKind}
 use Rattle.mc_tree.specs.declared.token.TokenKind.TheVariants as T
-use Rattle.mc_reader.specs.Reading.{Got, Good, Bad}
-use Rattle.mc_tree.specs.Raw.{Ex, Num, Cell, At, Un, Bin, span_of, join, ops}
-use Rattle.mc_reader.specs.Roles.{level, Lead, lead, Trail, trail, opens, unary, other, binary, closes, indexes, closes_at, ends, comma, other_trail, stops, tok}
-use Rattle.mc_tree.specs.Expression.{IsExpressionIn, IsExpression, number, cell, at, parens, un, bin, name_at, number_at}
-use Rattle.mc_reader.specs.Machine.{Frame, Pending, Prefix, Paren, Index, Now, Want, Named, Have, Step, Next, Done, Dead, opened, Top, reduce, deeper, leads, wants, trails, names, has, named, step, then, run, close, close_at, finish}
+use Rattle.mc_reader.specs.Reading.{Good, Bad}
+use Rattle.mc_tree.specs.Raw.{Ex, Cell, At, Un, Bin, span_of, join, ops}
+use Rattle.mc_reader.specs.Roles.{level, Lead, lead, Trail, trail, opens, unary, other, binary, closes, indexes, closes_at, ends, comma, other_trail, tok}
+use Rattle.mc_tree.specs.Expression.{IsExpressionIn, IsExpression, number, cell, at, parens, un, bin, name_at}
+use Rattle.mc_reader.specs.Machine.{Frame, Pending, Prefix, Paren, Index, Now, Want, Named, Have, Step, Next, Done, Dead, opened, Top, reduce, leads, wants, trails, names, has, named, step, then, run, close, close_at, finish}
 use Rattle.mc_reader.proofs.Complete.{level_le}
 use Rattle.mc_reader.proofs.RoleFacts.{opens_is, closes_is, indexes_is, closes_at_is, unary_is, binary_is}
 
@@ -148,8 +144,7 @@ module _ (bytes : List ℕ) where
         by_frames (Prefix op q ∷ G) w r = tt
         by_frames (Paren ∷ G) w r = tt
         by_frames (Index n ∷ G) w r =
-            let t = subst (λ z. IsExpressionIn bytes (suc (opened G)) 0 r.from w (tok (T.Sign z) p ∷ ts)) (closes_at_is s is) (r.tree 0 (omega arith)) in
-            (
+            let t = subst (λ z. IsExpressionIn bytes (suc (opened G)) 0 r.from w (tok (T.Sign z) p ∷ ts)) (closes_at_is s is) (r.tree 0 (omega arith)) in (
               tok T.Name r.before.1 ∷ tok (T.Sign S.OpenBracket) r.before.0 ∷ r.from,
               r.before.4,
               (λ j h. subst (λ (m : Name). IsExpressionIn bytes (opened G) j (tok T.Name r.before.1 ∷ tok (T.Sign S.OpenBracket) r.before.0 ∷ r.from) (At m w (join m.span p)) ts) (sym r.before.3)

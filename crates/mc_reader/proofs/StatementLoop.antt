@@ -1,5 +1,5 @@
 -- The loop over statements.
-use Rattle.std.proofs.Common.{◌≡◌, ℕ, zero, suc, ◌≤◌, ◌<◌, ◌-◌, ◌+◌, List, [], ◌∷◌, ◌++◌, length, drop, get_or, Option, Some, None, arith, refl, ap, ◌∙◌, sym, subst, drop-cons, add-one, nat_eq, Bool, true, false}
+use Rattle.std.proofs.Common.{◌≡◌, ℕ, zero, suc, ◌≤◌, ◌-◌, List, [], ◌∷◌, ◌++◌, length, drop, Option, Some, None, arith, refl, ap, ◌∙◌, sym, subst}
 use Rattle.std.proofs.lemmas.List.{length-drop}
 use Rattle.mc_tree.specs.declared.token.Token.{Token}
 use Rattle.mars_base.specs.declared.text.Span.{Span}
@@ -17,7 +17,6 @@ use Rattle.mc_reader.specs.declared.statement.Begin as D
 use Rattle.mc_reader.specs.declared.statement.Begin.TheVariants as B
 use Rattle.mc_reader.specs.Frames.{IsInside}
 use Rattle.mc_reader.specs.Plain.{at_begin_in, begin_by, block_in, simply_of, IsInsideBegin}
-use Rattle.mc_reader.proofs.Live.{Live}
 use Rattle.mc_reader.proofs.LiveTask.{FolSt, RestSt, rest_fol, not_else, begin_not_else, simple_not_else, live_simple, live_branch, live_braces, live_statements}
 use Rattle.mc_reader.proofs.LiveLists.{shorter}
 use Rattle.mc_reader.proofs.Loops.{one_more, bad_part, no_more}

@@ -1,8 +1,7 @@
 -- What the reader of tasks reads, and where it stops.
-use Rattle.std.proofs.Common.{◌≡◌, ℕ, zero, suc, ◌+◌, ◌<◌, ◌≤◌, List, [], ◌∷◌, ◌++◌, length, take, drop, get_or, Option, Some, None, arith, refl, ap, ◌∙◌, sym, subst, append_assoc, drop-cons, add-one, ◌⊎◌, inl, inr}
+use Rattle.std.proofs.Common.{◌≡◌, ℕ, zero, suc, ◌+◌, ◌<◌, ◌≤◌, List, [], ◌∷◌, ◌++◌, length, take, drop, get_or, arith, refl, ap, ◌∙◌, sym, subst, append_assoc, drop-cons, add-one, ◌⊎◌, inl, inr}
 use Rattle.std.proofs.lemmas.List.{length-append, length-drop, take_more, append-nil, take-append-drop}
 use Rattle.std.proofs.Math.Seq.{take-append_seam, drop-append_seam}
-use Rattle.mars_base.specs.declared.text.Span.{Span}
 use Rattle.mc_tree.specs.declared.token.Token.{Token}
 use Rattle.mc_tree.specs.declared.token.TokenKind.TheVariants as T
 use Rattle.mc_tree.specs.Raw.{Task}
@@ -30,8 +29,8 @@ module _ (bytes : List ℕ) where
   blank = tok T.Name (record { from = 0; to = 0 })
 
   -- where the reader dies, nothing goes on
-  pub is_first_bad : (ts : List Token) (n : ℕ) → n ≤ length ts → task bytes ts ≡ Bad (drop n ts) → IsHopelessAt ts n
-  is_first_bad ts n le h =
+  pub is_hopeless : (ts : List Token) (n : ℕ) → n ≤ length ts → task bytes ts ≡ Bad (drop n ts) → IsHopelessAt ts n
+  is_hopeless ts n le h =
       let d : Died AtEnd (task bytes) ts (drop n ts) = subst (Trace AtEnd (task bytes) ts) h ((live_task bytes).trace ts) in
       let l : length d.front ≡ n = omega (arith, ap length d.is, length-append d.front (drop n ts), length-drop n ts) in
       let e : take n ts ≡ d.front = ap (take n) d.is ∙ ap (λ m. take m (d.front ++ drop n ts)) (sym l) ∙ take-append_seam d.front (drop n ts) in
@@ -62,7 +61,7 @@ module _ (bytes : List ℕ) where
       by (Bad rest) h =
           let d : Died AtEnd (task bytes) ts rest = subst (Trace AtEnd (task bytes) ts) h ((live_task bytes).trace ts) in
           let e : drop (length d.front) ts ≡ rest = ap (drop (length d.front)) d.is ∙ drop-append_seam d.front rest in
-          inr (length d.front, is_first_bad ts (length d.front) (omega (arith, ap length d.is, length-append d.front rest)) (h ∙ ap Bad (sym e)))
+          inr (length d.front, is_hopeless ts (length d.front) (omega (arith, ap length d.is, length-append d.front rest)) (h ∙ ap Bad (sym e)))
 
 take_take : (ts : List Token) (m n : ℕ) → m ≤ n → take m (take n ts) ≡ take m ts
 take_take ts zero n le = refl

@@ -1,8 +1,8 @@
 -- What a function answers that reads as a reader does.
-use Rattle.std.specs.Prelude.{◌≡◌, ℕ, ◌+◌, ◌≤◌, List, [], ◌∷◌, ◌++◌, length, drop, Result, Ok, Err}
+use Rattle.std.specs.Prelude.{◌≡◌, ℕ, ◌≤◌, List, [], ◌∷◌, ◌++◌, length, drop, Result, Ok, Err}
 use Rattle.mc_tree.specs.declared.token.Token.{Token}
-use Rattle.mc_reader.specs.declared.cursor.ReadFault.{ReadFault}
-use Rattle.mc_reader.specs.declared.cursor.ReadFault.TheVariants.{Syntax, Memory}
+use Rattle.mc_reader.specs.declared.ReadFault.{ReadFault}
+use Rattle.mc_reader.specs.declared.ReadFault.TheVariants.{Syntax, Memory}
 use Rattle.mc_reader.specs.Reading.{Got, Good, Bad, next, done}
 use Rattle.mc_reader.specs.Readers.{sign, commas}
 use Rattle.mc_tree.specs.declared.token.Sign.TheVariants as S

@@ -1,5 +1,5 @@
 -- A reader of expressions, one token at a time.
-use Rattle.std.specs.Prelude.{◌≡◌, ℕ, zero, suc, ◌+◌, ◌<◌, ◌≤◌, List, [], ◌∷◌, Bool, true, false, cond}
+use Rattle.std.specs.Prelude.{ℕ, suc, List, [], ◌∷◌, cond}
 use Rattle.std.specs.Prelude.{nat_lt, nat_le}
 use Rattle.mars_base.specs.declared.word.BinOp.{BinOp}
 use Rattle.mars_base.specs.declared.word.UnOp.{UnOp}
@@ -9,7 +9,7 @@ use Rattle.mc_tree.specs.declared.token.Token.{Token}
 use Rattle.mc_tree.specs.declared.token.TokenKind.{TokenKind}
 use Rattle.mc_tree.specs.declared.token.TokenKind.TheVariants as T
 use Rattle.mc_reader.specs.Reading.{Got, Good, Bad}
-use Rattle.mc_tree.specs.Raw.{Ex, Num, Cell, At, Un, Bin, span_of, join}
+use Rattle.mc_tree.specs.Raw.{Ex, Cell, At, Un, Bin, span_of, join}
 use Rattle.mc_reader.specs.Roles.{level, Lead, lead, Trail, trail, opens, unary, other, binary, closes, indexes, closes_at, ends, comma, other_trail}
 use Rattle.mc_tree.specs.Expression.{name_at, number_at}
 

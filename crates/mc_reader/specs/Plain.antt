@@ -1,6 +1,5 @@
 -- What a tree of the code is as plain data.
-use Rattle.std.specs.Prelude.{◌≡◌, ℕ, zero, suc, List, [], ◌∷◌, map, Option, Some, None}
-use Rattle.mars_base.specs.declared.text.Span.{Span}
+use Rattle.std.specs.Prelude.{ℕ, zero, suc, List, map, Option, Some, None}
 use Rattle.mc_tree.specs.declared.raw.RawExpr.{RawExpr}
 use Rattle.mc_tree.specs.declared.raw.RawStmt.{RawStmt}
 use Rattle.mc_tree.specs.declared.raw.RawFunc.{RawFunc}
@@ -12,7 +11,7 @@ use Rattle.mc_reader.specs.declared.statement.Target.TheVariants as W
 use Rattle.mc_reader.specs.Frames.{IsInside}
 use Rattle.mc_tree.specs.declared.token.Token.{Token}
 use Rattle.mc_tree.specs.Raw as R
-use Rattle.mc_reader.specs.Reading.{Got, Good, Bad, next, done}
+use Rattle.mc_reader.specs.Reading.{Got, Bad, next, done}
 use Rattle.mc_reader.specs.Readers as P
 use Rattle.mc_reader.specs.declared.statement.Begin.{Begin}
 use Rattle.mc_reader.specs.declared.statement.Begin.TheVariants as B

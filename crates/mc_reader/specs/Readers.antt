@@ -1,5 +1,5 @@
 -- Readers of the parts of a task.
-use Rattle.std.specs.Prelude.{◌≡◌, ℕ, zero, suc, List, [], ◌∷◌, length, Option, Some, None, Bool, true, false, cond}
+use Rattle.std.specs.Prelude.{ℕ, zero, suc, List, [], ◌∷◌, length, Option, Some, None, Bool, true, false}
 use Rattle.mars_base.specs.declared.text.Span.{Span}
 use Rattle.mars_base.specs.declared.word.Role.{Role}
 use Rattle.mars_base.specs.declared.word.Role.TheVariants as R
@@ -13,10 +13,10 @@ use Rattle.mc_tree.specs.declared.token.Sign.TheVariants as S
 use Rattle.mc_tree.specs.declared.token.Token.{Token}
 use Rattle.mc_tree.specs.declared.token.TokenKind.{TokenKind}
 use Rattle.mc_tree.specs.declared.token.TokenKind.TheVariants as T
-use Rattle.mc_tree.specs.Raw.{Ex, join, St, Set, SetAt, Call, If, While, Scope, Mark, Sequence, Bl, Nil, Then, Else, Nothing, Otherwise, Func, Body, Task}
+use Rattle.mc_tree.specs.Raw.{Ex, join, St, Set, SetAt, Call, If, While, Scope, Mark, Sequence, Bl, Nothing, Otherwise, Func, Body, Task}
 use Rattle.mc_tree.specs.Expression.{name_at}
 pub use Rattle.mc_tree.specs.RawPlain.{block_of}
-use Rattle.mc_reader.specs.Reading.{Got, Good, Bad, next, token, choice, done, at_end, many}
+use Rattle.mc_reader.specs.Reading.{Got, Good, next, token, choice, done, at_end, many}
 use Rattle.mc_reader.specs.Machine as M
 
 -- numbers of signs and keywords, for comparing them

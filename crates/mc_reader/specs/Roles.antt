@@ -1,8 +1,6 @@
 -- What signs are in an expression.
-use Rattle.std.specs.Prelude.{ℕ, Bool, true, false}
-use Rattle.mars_base.specs.declared.word.BinOp.{BinOp}
+use Rattle.std.specs.Prelude.{Bool, true, false}
 use Rattle.mars_base.specs.declared.word.BinOp.TheVariants as B
-use Rattle.mars_base.specs.declared.word.UnOp.{UnOp}
 use Rattle.mars_base.specs.declared.word.UnOp.TheVariants as N
 use Rattle.mc_tree.specs.declared.token.Sign.{Sign}
 use Rattle.mc_tree.specs.declared.token.Sign.TheVariants as S

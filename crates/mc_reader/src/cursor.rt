@@ -4,26 +4,17 @@ ghost use Rattle.mc_tree.specs.Raw.{join as joined};
 ghost use Rattle.mc_tree.specs.Expression.{name_at};
 ghost use Rattle.mc_tree.specs.Tokens.{SpansInOrder};
 ghost use Rattle.mc_tree.specs.declared.token.Token.{Token as RawToken};
-ghost use Rattle.mc_reader.specs.declared.cursor.ReadFault.TheVariants.{Memory as NoMemory};
+ghost use Rattle.mc_reader.specs.declared.ReadFault.TheVariants.{Memory as NoMemory};
 ghost use Rattle.mc_reader.specs.Readers.{same_sign, same_key, at_sign, at_key, at_number, at_name, sign as sign_reader, key as key_reader, number as number_reader, name as name_reader, next_is};
 ghost use Rattle.mc_reader.specs.Reading.{Good, Misses};
 ghost use Rattle.mc_reader.specs.Answers.{Answers, itself};
 ghost use Rattle.mc_reader.specs.Frames.{IsInside};
 
+use crate::ReadFault;
 use mars_base::{Memory, Span, Text};
 use mc_tree::{Key, Name, RawNumber, Sign, Token, TokenKind};
 use sqlite_items::Items;
 use std::alloc::Global;
-
-/// Why no tree was read.
-#[derive(Clone, Copy, Debug, PartialEq, Eq)]
-pub enum ReadFault {
-    /// The tokens before this one begin a task, and with it they begin none. The number of tokens
-    /// means that all of them begin a task and are none.
-    Syntax(u32),
-    /// There was no memory.
-    Memory,
-}
 
 /// A place among the tokens.
 #[derive(Drop)]

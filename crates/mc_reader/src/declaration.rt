@@ -7,7 +7,8 @@ ghost use Rattle.mc_reader.specs.Readers.{width as width_reader, name as name_re
 ghost use Rattle.mc_reader.specs.Answers.{Answers, itself, after_first};
 ghost use Rattle.mc_reader.specs.Places.{at_role, decls as decls_reader};
 
-use crate::cursor::{Cursor, ReadFault, keep};
+use crate::ReadFault;
+use crate::cursor::{Cursor, keep};
 use mars_base::Role;
 use mc_tree::{Key, Name, RawDecl, RawNumber, Sign, Token, TokenKind};
 use sqlite_items::Items;

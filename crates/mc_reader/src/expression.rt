@@ -9,7 +9,8 @@ ghost use Rattle.mc_reader.specs.Answers.{Answers};
 ghost use Rattle.mc_tree.specs.RawPlain.{plain_expr};
 ghost use Rattle.mc_reader.specs.Frames.{plain_frame, stack, frames_of, plain_now, plain_step, IsSized, IfNext, IsInside, nowhere, indexing, applied_to};
 
-use crate::cursor::{Cursor, ReadFault, join, named};
+use crate::ReadFault;
+use crate::cursor::{Cursor, join, named};
 use crate::role::{Lead, Trail, lead_of, level_of, trail_of};
 use mars_base::{BinOp, Memory, Span, UnOp};
 use mc_tree::{Name, RawExpr, RawNumber, Sign, Token, TokenKind};

@@ -10,7 +10,8 @@ ghost use Rattle.mc_reader.specs.Answers.{Answers, itself, after_first};
 ghost use Rattle.mc_reader.specs.Frames.{IsInside};
 ghost use Rattle.mc_reader.specs.Plain.{plain_option, plain_stmts, begin_by, begin_map, at_begin_in, block_in, plain_block, statement_in, IsInsideBegin, plain_right, plain_target, target_map, plain_args, as_value};
 
-use crate::cursor::{Cursor, ReadFault, join, keep, named};
+use crate::ReadFault;
+use crate::cursor::{Cursor, join, keep, named};
 use crate::expression::{Now, rest_of, value};
 use mars_base::Span;
 use mc_tree::{Key, Name, RawExpr, RawStmt, Sign, Token, TokenKind};

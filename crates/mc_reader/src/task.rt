@@ -9,7 +9,8 @@ ghost use Rattle.mc_reader.specs.Readers.{at_key, func as func_reader, funcs as 
 ghost use Rattle.mc_reader.specs.Answers.{Answers};
 ghost use Rattle.mc_reader.specs.Plain.{plain_funcs};
 
-use crate::cursor::{Cursor, ReadFault, join, keep, key_at};
+use crate::ReadFault;
+use crate::cursor::{Cursor, join, keep, key_at};
 use crate::declaration::{Place, declarations, parameters};
 use crate::expression::value;
 use crate::statement::statements;

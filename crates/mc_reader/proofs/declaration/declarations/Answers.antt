@@ -1,4 +1,4 @@
-use Rattle.std.proofs.Common.{◌≡◌, ◌≤◌, ◌-◌, length, drop, arith, refl, ap, ◌∙◌, sym}
+use Rattle.std.proofs.Common.{drop, arith, ap, ◌∙◌, sym}
 use Rattle.mc_reader.specs.Readers.{decl}
 use Rattle.mc_reader.specs.Places.{decls}
 use Rattle.mc_reader.specs.Reading.{Good}

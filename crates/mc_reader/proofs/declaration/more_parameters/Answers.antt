@@ -1,6 +1,6 @@
-use Rattle.std.proofs.Common.{◌≡◌, ◌≤◌, ◌-◌, length, drop, arith, refl, ap, ◌∙◌, sym, true, false}
+use Rattle.std.proofs.Common.{drop, arith, refl, ap, ◌∙◌, sym}
 use Rattle.mc_tree.specs.declared.token.Sign.TheVariants as S
-use Rattle.mc_reader.specs.Reading.{Got, next, done}
+use Rattle.mc_reader.specs.Reading.{next, done}
 use Rattle.mc_reader.specs.Readers.{name, sign, commas}
 use Rattle.mc_reader.specs.Answers.{itself, after, closing, after_first}
 use Rattle.mc_reader.proofs.DeclarationLoop.{fault}

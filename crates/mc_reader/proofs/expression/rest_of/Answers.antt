@@ -1,4 +1,4 @@
-use Rattle.std.proofs.Common.{◌≡◌, arith, ◌∙◌, ap, sym, length, drop}
+use Rattle.std.proofs.Common.{arith, ◌∙◌, length}
 use Rattle.mc_tree.specs.RawPlain.{plain_expr}
 use Rattle.mc_reader.specs.Frames.{plain_now, frames_of}
 use Rattle.mc_reader.proofs.Runs.{next, done, dead, no_more}

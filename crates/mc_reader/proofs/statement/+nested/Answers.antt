@@ -1,4 +1,4 @@
-use Rattle.std.proofs.Common.{rules, ◌≡◌, ◌≤◌, ◌-◌, ◌++◌, [], ◌∷◌, length, drop, arith, refl, ap, ◌∙◌, sym, map}
+use Rattle.std.proofs.Common.{rules, length, drop, arith, ap, ◌∙◌, sym}
 use Rattle.mc_reader.specs.Readers.{statements, sign}
 use Rattle.mc_tree.specs.declared.token.Sign.TheVariants as S
 use Rattle.mc_reader.specs.Reading.{Good}

@@ -1,6 +1,6 @@
-use Rattle.std.proofs.Common.{◌≡◌, ◌≤◌, ◌-◌, length, drop, arith, refl, ap, ◌∙◌, sym, true, false}
+use Rattle.std.proofs.Common.{drop, arith, refl, ap, ◌∙◌, sym}
 use Rattle.mc_tree.specs.declared.token.Sign.TheVariants as S
-use Rattle.mc_reader.specs.Reading.{Got, next, done}
+use Rattle.mc_reader.specs.Reading.{next, done}
 use Rattle.mc_reader.specs.Readers.{value, sign, commas}
 use Rattle.mc_tree.specs.RawPlain.{plain_expr}
 use Rattle.mc_reader.specs.Plain.{plain_args}

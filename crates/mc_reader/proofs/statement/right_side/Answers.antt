@@ -1,4 +1,4 @@
-use Rattle.std.proofs.Common.{◌≡◌, drop, ap, ◌∙◌, sym}
+use Rattle.std.proofs.Common.{drop, ap, ◌∙◌, sym}
 use Rattle.mc_reader.specs.Readers.{right}
 use Rattle.mc_reader.specs.Plain.{as_value, plain_right}
 use Rattle.mc_reader.proofs.DeclarationLoop.{same_answer}

@@ -1,6 +1,4 @@
-use Rattle.std.proofs.Common.{◌≡◌, ◌+◌, suc, [], length, drop, get_or, arith, refl, ap, ◌∙◌, sym}
-use Rattle.mc_tree.specs.Tokens.{SpansInOrder}
-use Rattle.mc_tree.specs.Expression.{name_at}
+use Rattle.std.proofs.Common.{[], arith, refl}
 use Rattle.mc_reader.specs.Plain.{at_begin_in}
 use Rattle.mc_reader.proofs.Spans.{inside}
 use Rattle.mc_reader.proofs.Places.{cons_at, misses_at}

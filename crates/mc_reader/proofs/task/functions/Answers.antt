@@ -1,4 +1,4 @@
-use Rattle.std.proofs.Common.{◌≡◌, ◌≤◌, ◌-◌, length, drop, arith, refl, ap, ◌∙◌, sym}
+use Rattle.std.proofs.Common.{drop, arith, ap, ◌∙◌, sym}
 use Rattle.mc_tree.specs.RawPlain.{plain_func}
 use Rattle.mc_reader.specs.Readers.{func, funcs}
 use Rattle.mc_reader.specs.Plain.{plain_funcs}

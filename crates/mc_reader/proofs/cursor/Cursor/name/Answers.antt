@@ -1,4 +1,4 @@
-use Rattle.std.proofs.Common.{◌≡◌, length, drop, arith, refl, ap, ◌∙◌, sym}
+use Rattle.std.proofs.Common.{drop, ap, ◌∙◌, sym}
 use Rattle.mc_reader.specs.Reading.{Bad}
 use Rattle.mc_reader.specs.Readers.{at_name}
 use Rattle.mc_reader.proofs.Places.{token_misses}

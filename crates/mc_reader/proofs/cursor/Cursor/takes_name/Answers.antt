@@ -1,4 +1,4 @@
-use Rattle.std.proofs.Common.{◌≡◌, length, drop, arith, refl}
+use Rattle.std.proofs.Common.{arith, refl}
 use Rattle.mc_reader.specs.Readers.{at_name}
 use Rattle.mc_reader.proofs.Spans.{inside}
 use Rattle.mc_reader.proofs.Places.{misses_at}

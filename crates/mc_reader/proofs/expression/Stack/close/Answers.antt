@@ -1,10 +1,8 @@
-use Rattle.std.proofs.Common.{rules, ◌≡◌, arith, ◌∙◌, ap, sym, ◌-◌, suc}
-use Rattle.mc_tree.specs.Raw.{join}
+use Rattle.std.proofs.Common.{arith}
 use Rattle.mc_tree.specs.RawPlain.{plain_expr as plain}
 use Rattle.mc_reader.specs.Frames.{stack}
 use Rattle.mc_reader.specs.Machine as M
 use Rattle.mc_reader.proofs.Opened.{one_less}
-use Rattle.mc_tree.proofs.RawPlain.{plain_at}
 use Rattle.mc_reader.proofs.expression.Stack.close.Goals as goal
 
 pub overflow_sub-self : goal.overflow_sub-self

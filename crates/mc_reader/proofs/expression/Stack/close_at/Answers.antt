@@ -1,5 +1,4 @@
-use Rattle.std.proofs.Common.{rules, ◌≡◌, arith, ◌∙◌, ap, sym, ◌-◌, suc}
-use Rattle.mc_tree.specs.Raw.{join}
+use Rattle.std.proofs.Common.{arith}
 use Rattle.mc_tree.specs.RawPlain.{plain_expr as plain}
 use Rattle.mc_reader.specs.Frames.{stack}
 use Rattle.mc_reader.specs.Machine as M

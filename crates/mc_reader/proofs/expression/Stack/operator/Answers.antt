@@ -1,4 +1,4 @@
-use Rattle.std.proofs.Common.{rules, ◌≡◌, arith, ◌∙◌, ap, sym}
+use Rattle.std.proofs.Common.{arith, ◌∙◌, ap, sym}
 use Rattle.mc_tree.specs.RawPlain.{plain_expr as plain}
 use Rattle.mc_reader.specs.Frames.{stack}
 use Rattle.mc_reader.specs.Machine.{opened}
