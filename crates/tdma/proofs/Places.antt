@@ -1,11 +1,10 @@
 -- A tick names at most one round, slot and word, and they name it.
-use Rattle.std.proofs.Common.{◌≡◌, ℕ, ◌+◌, ◌-◌, ◌*◌, ◌/◌, ◌%◌, ◌<◌, ◌≤◌, ◌↔◌, ◌⊎◌, inl, inr, refl, sym, ◌∙◌, ap, subst, arith, mul-le-mul_right}
-use Rattle.std.proofs.Math.Nat.{div-add-mod', mod-lt}
+use Rattle.std.proofs.Common.{◌≡◌, ℕ, ◌+◌, ◌-◌, ◌*◌, ◌/◌, ◌%◌, ◌<◌, ◌≤◌, ◌↔◌, ◌⊎◌, inl, inr, refl, sym, ◌∙◌, ap, arith, mul-le-mul_right}
+use Rattle.std.proofs.Math.Nat.{div-add-mod'}
 use Rattle.std.proofs.lemmas.Nat.{mul-add-lt, div-mul-add, mod-mul-add, div_below}
 use Rattle.std.proofs.lemmas.Bool.{cases_lt}
 use Rattle.std.proofs.lemmas.Grind.{div_ceil_times}
 use Rattle.std.specs.Int.{div_ceil}
-use Rattle.mars_base.specs.Shape.{least_round_of}
 use Rattle.mars_base.specs.declared.shape.Side.{Side}
 use Rattle.mars_base.specs.declared.shape.Side.TheVariants.{A, B}
 use Rattle.tdma.specs.Layout.{Layout, IsLayout, cycle_ticks, slot_ticks, side_number, slot_start_of}

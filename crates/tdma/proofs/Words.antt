@@ -1,9 +1,9 @@
 -- Words taken in one frame, and words given back.
-use Rattle.std.proofs.Common.{◌≡◌, ◌≢◌, ℕ, ◌+◌, ◌-◌, ◌*◌, ◌/◌, ◌%◌, ◌<◌, ◌≤◌, ◌⊎◌, inl, inr, eqb, List, length, get_or, set, refl, sym, ◌∙◌, ap, ap₂, subst, arith, get_or-set_other, get_or-set_same, mul-le-mul_right}
+use Rattle.std.proofs.Common.{◌≡◌, ◌≢◌, ℕ, ◌+◌, ◌-◌, ◌*◌, ◌/◌, ◌%◌, ◌<◌, ◌≤◌, ◌⊎◌, inl, inr, List, length, get_or, set, refl, sym, ◌∙◌, ap, ap₂, subst, arith, get_or-set_other, get_or-set_same, mul-le-mul_right}
 use Rattle.std.proofs.Math.Nat.{div-add-mod', mod-lt}
-use Rattle.std.proofs.lemmas.Nat.{mul-add-lt, same_from_place, div_below}
+use Rattle.std.proofs.lemmas.Nat.{same_from_place, div_below}
 use Rattle.std.proofs.lemmas.Bool.{cases_eq, eq-eqb, ne_eqb}
-use Rattle.std.proofs.lemmas.List.{ext_get_or, length-set}
+use Rattle.std.proofs.lemmas.List.{ext_get_or}
 use Rattle.std.proofs.lemmas.Grind.{get_or_default_zero}
 use Rattle.tdma.specs.Layout.{Layout}
 use Rattle.tdma.specs.Load.{Load, IsLoad, Takes, taken_in, words_for}

@@ -1,7 +1,8 @@
 -- The ticks of a TDMA bus, after the Mars approach (H. Kopetz et al., IEEE Micro 9(1), 1989); that each
 -- unit has an A slot and then a B slot, and that idle ticks end each slot, is this project's own.
-use Rattle.std.specs.Prelude.{ℕ, ◌+◌, ◌-◌, ◌*◌, ◌^◌, ◌<◌, ◌≤◌}
+use Rattle.std.specs.Prelude.{ℕ, ◌+◌, ◌-◌, ◌*◌, ◌/◌, ◌^◌, ◌<◌, ◌≤◌}
 use Rattle.mars_base.specs.Shape.{slot_length, least_round_of}
+use Rattle.mars_base.specs.declared.shape.ClusterShape.{ClusterShape}
 use Rattle.mars_base.specs.declared.shape.Side.{Side}
 use Rattle.mars_base.specs.declared.shape.Side.TheVariants.{A, B}
 
@@ -17,6 +18,10 @@ pub record Layout : Type 0 where
   pub round_ticks : ℕ
   -- the rounds of a cycle
   pub rounds : ℕ
+
+-- the bus of a cluster's cycle of so many ticks: a whole number of rounds
+abbrev pub layout_of : ClusterShape → (cycle : ℕ) → Layout
+layout_of s cycle = record { units = s.units; slot_words = s.slot_words; precision = s.precision; round_ticks = s.round; rounds = cycle / s.round }
 
 -- the numbers are in their limits, and the slots of all units fit in a round
 pub record IsLayout (l : Layout) : Type 0 where

@@ -1,7 +1,7 @@
 -- The words that are taken in the frames of a cycle. Each unit has one frame a round.
 use Rattle.std.specs.Prelude.{◌≡◌, ℕ, ◌+◌, ◌*◌, ◌<◌, ◌≤◌, ◌==◌, ◌&&◌, if◌then◌else◌, List, length, slice_index}
 use Rattle.mars_base.specs.declared.shape.Side.TheVariants.{A}
-use Rattle.tdma.specs.Layout.{Layout, slot_start_of}
+use Rattle.tdma.specs.Layout.{Layout, slot_start_of, usable_of}
 
 -- the words taken, unit by unit and round by round
 pub record Load : Type 0 where
@@ -36,3 +36,12 @@ pub record HasRoom (f : Load) (unit from words round : ℕ) : Type 0 where
 pub record IsFirstRoom (f : Load) (unit from words round : ℕ) : Type 0 where
   pub room : HasRoom f unit from words round
   pub least : (k : ℕ) → HasRoom f unit from words k → round ≤ k
+
+-- the first round with room, and its frame may be used by the last tick
+pub record IsFirstRoomBy (f : Load) (unit from last words round : ℕ) : Type 0 where
+  pub first : IsFirstRoom f unit from words round
+  pub usable : usable_of f.layout round unit ≤ last
+
+-- no round with room has a frame that may be used by the last tick
+abbrev pub HasNoRoomBy : Load → (unit from last words : ℕ) → Type 0
+HasNoRoomBy f unit from last words = (k : ℕ) → HasRoom f unit from words k → last < usable_of f.layout k unit

@@ -24,8 +24,8 @@ impl Model for Frames {
 }
 
 impl Frames {
-    ghost use Rattle.std.specs.Prelude.{◌≡◌, ℕ, ◌+◌, ◌<◌, ◌≤◌, IfOk, IfSome, IfNone};
-    ghost use Rattle.tdma.specs.Load.{Load, IsLoad, taken_in, Takes, HasRoom, IsFirstRoom};
+    ghost use Rattle.std.specs.Prelude.{◌≡◌, ℕ, ◌+◌, ◌<◌, ◌≤◌, ◌↔◌, IsTrue, IfOk, IfSome, IfNone};
+    ghost use Rattle.tdma.specs.Load.{Load, IsLoad, taken_in, Takes, HasRoom, IsFirstRoom, IsFirstRoomBy, HasNoRoomBy};
 
     /// The frames of a cycle, with no word taken.
     pub fn new(alloc: Global, round: &Round) -> Result<Frames, Memory>
@@ -39,6 +39,15 @@ impl Frames {
         })
     }
 
+    /// Whether a frame has room for so many words.
+    fn fits(&self, unit: u8, round: u32, words: u8) -> bool
+        requires unit { unit < self.now.layout.units }
+        requires round { round < self.now.layout.rounds }
+        ensures { IsTrue result ↔ (taken_in self.now unit round + words ≤ self.now.layout.slot_words) }
+    {
+        u32::from(self.taken(unit, round)) + u32::from(words) <= u32::from(self.round.slot_words())
+    }
+
     /// The first round whose A slot of the unit begins at the tick or later and whose frame has room for
     /// so many words; None exactly where there is none.
     pub fn first_room(&self, round: &Round, unit: u8, from: u32, words: u8) -> Option<u32>
@@ -47,15 +56,49 @@ impl Frames {
         ensures first { IfSome result (IsFirstRoom self.now unit from words) }
         ensures none { IfNone result ((k : ℕ) → ¬ HasRoom self.now unit from words k) }
     {
-        let rounds = round.rounds();
-        let most = u32::from(round.slot_words());
-        for k in round.first_from(unit, from)..rounds {
-            let taken = self.words[usize::from(unit) * rounds as usize + k as usize];
-            if u32::from(taken) + u32::from(words) <= most {
+        for k in round.first_from(unit, from)..round.rounds() {
+            if self.fits(unit, k, words) {
                 return Some(k);
             }
         }
         None
+    }
+
+    /// The first round whose A slot of the unit begins at the tick or later and whose frame has room for
+    /// so many words, where that frame may be used at the last tick or before; None exactly where no
+    /// such frame with room may be used by then. No round past the last tick is looked at.
+    pub fn first_room_by(
+        &self,
+        round: &Round,
+        unit: u8,
+        from: u32,
+        last: u32,
+        words: u8,
+    ) -> Option<u32>
+        requires same { round.now ≡ self.now.layout }
+        requires unit { unit < round.now.units }
+        ensures first { IfSome result (IsFirstRoomBy self.now unit from last words) }
+        ensures none { IfNone result (HasNoRoomBy self.now unit from last words) }
+    {
+        let first = round.first_from(unit, from);
+        for k in first..round.rounds() {
+            if round.usable(k, unit) > last {
+                return None;
+            }
+            if self.fits(unit, k, words) {
+                return Some(k);
+            }
+        }
+        None
+    }
+
+    /// How many words of a frame are taken.
+    pub fn taken(&self, unit: u8, round: u32) -> u8
+        requires unit { unit < self.now.layout.units }
+        requires round { round < self.now.layout.rounds }
+        ensures { result ≡ taken_in self.now unit round }
+    {
+        self.words[usize::from(unit) * self.round.rounds() as usize + round as usize]
     }
 
     /// Takes words of a frame, and answers their offset in it: how many were taken before.

@@ -40,24 +40,18 @@ impl Model for Round {
 
 impl Round {
     ghost use Rattle.std.specs.Prelude.{◌≡◌, ℕ, ◌+◌, ◌%◌, ◌<◌, ◌≤◌, ◌↔◌, IfSome, IfNone};
-    ghost use Rattle.mars_base.specs.Shape.{least_round_of};
+    ghost use Rattle.mars_base.specs.Shape.{IsShape};
     ghost use Rattle.mars_base.specs.declared.shape.Side.TheVariants.{A, B};
-    ghost use Rattle.tdma.specs.Layout.{IsLayout, cycle_ticks, slot_start_of, last_word_tick, usable_of};
+    ghost use Rattle.tdma.specs.Layout.{IsLayout, layout_of, cycle_ticks, slot_start_of, last_word_tick, usable_of};
     ghost use Rattle.tdma.specs.Word.{IsAt, IsIdle, IsAlone};
 
     /// The rounds of a cycle of so many ticks.
     pub fn new(shape: &ClusterShape, cycle: u32) -> Round
-        requires units { (1 ≤ shape.now.units) × (shape.now.units ≤ 8) }
-        requires slot_words { (2 ≤ shape.now.slot_words) × (shape.now.slot_words ≤ 64) }
-        requires precision { (1 ≤ shape.now.precision) × (shape.now.precision ≤ 8) }
-        requires fits { least_round_of shape.now.units shape.now.slot_words shape.now.precision ≤ shape.now.round }
+        requires shape { IsShape shape.now }
         requires whole { cycle % shape.now.round ≡ 0 }
-        ensures units { result.units ≡ shape.now.units }
-        ensures slot_words { result.slot_words ≡ shape.now.slot_words }
-        ensures precision { result.precision ≡ shape.now.precision }
-        ensures round_ticks { result.round_ticks ≡ shape.now.round }
+        ensures layout { result ≡ layout_of shape.now cycle }
         ensures cycle { cycle_ticks result ≡ cycle }
-        ensures layout { IsLayout result }
+        ensures limits { IsLayout result }
     {
         Round {
             units: shape.units,

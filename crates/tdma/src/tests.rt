@@ -46,7 +46,11 @@ fn frames_fill(rt: HostRuntime) -> Result<(), Fail> {
     assert_eq!(rt; frames.first_room(&round, 0, 0, 2), Some(0));
     assert_eq!(rt; frames.first_room(&round, 0, 13, 0), None);
     assert_eq!(rt; frames.first_room(&round, 1, 6, 3), None);
+    assert_eq!(rt; frames.first_room_by(&round, 0, 1, 18, 2), Some(1));
+    assert_eq!(rt; frames.first_room_by(&round, 0, 1, 17, 2), None);
     assert_eq!(rt; frames.take(1, 0, 1), 0);
+    assert_eq!(rt; frames.taken(1, 0), 1);
+    assert_eq!(rt; frames.taken(0, 0), 0);
     assert_eq!(rt; frames.first_room(&round, 1, 6, 1), Some(0));
     assert_eq!(rt; frames.take(1, 0, 1), 1);
     assert_eq!(rt; frames.first_room(&round, 1, 6, 1), Some(1));

@@ -1,4 +1,4 @@
-use Rattle.std.proofs.Common.{ℕ, ◌≤◌, ◌↔◌, subst}
+use Rattle.std.proofs.Common.{◌≤◌, ◌↔◌, subst}
 use Rattle.mars_base.specs.declared.shape.Side.TheVariants.{A}
 use Rattle.tdma.specs.Layout.{Layout, slot_start_of}
 use Rattle.tdma.proofs.Places.{first_iff}
