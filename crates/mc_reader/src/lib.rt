@@ -5,6 +5,8 @@ ghost use Rattle.std.specs.Prelude.{◌≡◌, ◌≤◌, ℕ, length, IfOk, IsE
 ghost use Rattle.mc_tree.specs.Tokens.{IsTokens};
 ghost use Rattle.mc_tree.specs.Raw.{Task};
 ghost use Rattle.mc_tree.specs.RawPlain.{plain_task};
+ghost use Rattle.mc_tree.specs.RawSize.{raw_nodes};
+ghost use Rattle.mc_tree.specs.Spellable.{IsSpellable};
 ghost use Rattle.mc_tree.specs.Grammar.{Spells, IsHopelessAt};
 
 mod cursor;
@@ -39,6 +41,11 @@ pub fn read(alloc: Global, bytes: &[u8], tokens: &[Token]) -> Result<RawTask, Re
     requires tokens { IsTokens bytes.now tokens.now }
     ensures ok { IfOk result (λ t. Spells bytes.now tokens.now (plain_task t)) }
     ensures bad { (n : ℕ) → result ≡ Err (ReadFault.Syntax n) → IsHopelessAt tokens.now n }
+
+    // The tree has at most as many nodes as the text has tokens, and its declarations stand in their
+    // places.
+    ensures small { IfOk result (λ t. raw_nodes (plain_task t) ≤ length tokens.now) }
+    ensures spellable { IfOk result (λ t. IsSpellable (plain_task t)) }
 
     // Unless memory runs out, a text that spells a tree gives it, and one that spells none tells its
     // hopeless token. So it has at most one of them.

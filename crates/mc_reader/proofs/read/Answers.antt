@@ -1,4 +1,4 @@
-use Rattle.std.proofs.Common.{◌≡◌, ℕ, List, [], length, drop, Result, Ok, Err, IfOk, MatchResult, ◌⊎◌, inl, inr, arith, refl, ap, ◌∙◌, sym}
+use Rattle.std.proofs.Common.{◌≡◌, ◌≤◌, ℕ, List, [], length, drop, Result, Ok, Err, IfOk, MatchResult, ◌⊎◌, inl, inr, arith, refl, ap, ◌∙◌, sym}
 use Rattle.std.specs.Prelude.{IsErrAnd}
 use Rattle.mc_tree.specs.declared.token.Token.{Token}
 use Rattle.mc_tree.specs.declared.raw.RawTask.{RawTask}
@@ -6,7 +6,10 @@ use Rattle.mc_tree.specs.Tokens.{IsTokens}
 use Rattle.mc_tree.specs.Raw.{Task}
 use Rattle.mc_tree.specs.RawPlain.{plain_task}
 use Rattle.mc_tree.specs.Grammar.{Spells, IsHopelessAt}
+use Rattle.mc_tree.specs.RawSize.{raw_nodes}
+use Rattle.mc_tree.specs.Spellable.{IsSpellable}
 use Rattle.mc_tree.proofs.TokenFacts.{spans_in_order}
+use Rattle.mc_tree.proofs.SpelledSize.{task_size, task_spellable}
 use Rattle.mc_reader.specs.declared.ReadFault.{ReadFault}
 use Rattle.mc_reader.specs.declared.ReadFault.TheVariants.{Syntax, Memory}
 use Rattle.mc_reader.specs.Reading.{Good, Bad}
@@ -27,6 +30,14 @@ module _ (bytes : List ℕ) (ts : List Token) (at : ℕ) where
   spelled (Ok t) k h = (k, (task_sound bytes ts (plain_task t) (drop at ts) h.0).0)
   spelled (Err e) k h = tt
 
+  small : (r : Result RawTask ReadFault) → Answers (task bytes) plain_task ts 0 at r → IfOk r (λ t. raw_nodes (plain_task t) ≤ length ts)
+  small (Ok t) h = task_size bytes ts (plain_task t) (task_sound bytes ts (plain_task t) (drop at ts) h.0).0
+  small (Err e) h = tt
+
+  spellable : (r : Result RawTask ReadFault) → length ts ≤ 65536 → Answers (task bytes) plain_task ts 0 at r → IfOk r (λ t. IsSpellable (plain_task t))
+  spellable (Ok t) few h = task_spellable bytes ts (plain_task t) (omega (arith, few)) (task_sound bytes ts (plain_task t) (drop at ts) h.0).0
+  spellable (Err e) few h = tt
+
   hopeless : (r : Result RawTask ReadFault) → Answers (task bytes) plain_task ts 0 at r → (n : ℕ) → r ≡ Err (Syntax n) → IsHopelessAt ts n
   hopeless (Ok t) h n e = absurd cc
   hopeless (Err (Syntax m)) h n e = let c : m ≡ n = cc in is_hopeless bytes ts n (omega (arith, c, h.1)) (h.0 ∙ ap (λ k. Bad (drop k ts)) c)
@@ -44,6 +55,14 @@ module _ (bytes : List ℕ) (ts : List Token) (at : ℕ) where
 
 pub returns-clause-ok : goal.returns-clause-ok
 returns-clause-ok c = spelled c.args.bytes.now c.args.tokens.now c.task.new.cursor.at c.task.result c.requires.tokens c.task.ensures
+
+pub returns-clause-small : goal.returns-clause-small
+returns-clause-small c = small c.args.bytes.now c.args.tokens.now c.task.new.cursor.at c.task.result c.task.ensures
+
+pub returns-clause-spellable : goal.returns-clause-spellable
+returns-clause-spellable c =
+    let few : length c.args.tokens.now ≤ 65536 = omega (arith, few_tokens 0 (length c.args.bytes.now) c.args.tokens.now (spans_in_order c.args.bytes.now c.requires.tokens), c.requires.short) in
+    spellable c.args.bytes.now c.args.tokens.now c.task.new.cursor.at c.task.result few c.task.ensures
 
 pub returns-clause-bad : goal.returns-clause-bad
 returns-clause-bad c n e = hopeless c.args.bytes.now c.args.tokens.now c.task.new.cursor.at c.task.result c.task.ensures n e
