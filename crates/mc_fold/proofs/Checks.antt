@@ -1,8 +1,5 @@
 -- A folded tree is checked.
-use Rattle.std.proofs.Common.{◌≡◌, ℕ, zero, suc, ◌+◌, ◌<◌, ◌≤◌, ℤ, max, List, [], ◌∷◌, ◌++◌, Option, Some, None, length, map, refl, ap, ◌∙◌, sym, subst, arith}
-use Rattle.std.specs.Prelude.{FitsSigned}
-use Rattle.std.specs.Int.{w32}
-use Rattle.std.specs.List.{All}
+use Rattle.std.proofs.Common.{◌≡◌, ℕ, suc, ◌≤◌, ℤ, List, [], ◌∷◌, ◌++◌, Option, Some, None, length, map, refl, ◌∙◌, sym, subst, arith}
 use Rattle.std.proofs.lemmas.List.{length-map}
 use Rattle.std.proofs.lemmas.List.Elements.{All-map, All-weaker}
 use Rattle.mars_base.specs.declared.word.BinOp.{BinOp}
@@ -13,11 +10,11 @@ use Rattle.mc_tree.specs.Meaning.{params_at}
 use Rattle.mc_tree.specs.Height.{height, args_height}
 use Rattle.mc_tree.specs.Sound.{SoundE, SoundTest, Sound, SoundB, SoundL}
 use Rattle.mc_tree.specs.Counters.{Counted, CountedB, CountedL, CountedF}
-use Rattle.mc_tree.specs.Size.{nodes, args_nodes, st_nodes, bl_nodes, ls_nodes, fn_nodes, fns_nodes, tree_nodes}
+use Rattle.mc_tree.specs.Size.{nodes, args_nodes, st_nodes, bl_nodes, ls_nodes, fns_nodes, tree_nodes}
 use Rattle.mc_tree.specs.Checked.{FnChecked, Routines, IsChecked}
 use Rattle.mc_tree.specs.Tree.{Ex, Num, Var, Elem, Un, Bin, St, Assign, AssignAt, Invoke, When, Choice, Loop, Scoped, Count, Series, Bl, Nil, Then, Ls, NoLoop, OneLoop, Fn, Tree}
-use Rattle.mc_compile.proofs.Words.{binary_word, unary_word}
-use Rattle.mc_fold.proofs.Mirror.{num_of, or_num, folded_un, folded_bin, folded_ex, folded_st, folded_bl, folded_ls, folded_fn, folded_tree}
+use Rattle.word_code.proofs.Words.{binary_word, unary_word}
+use Rattle.mc_fold.proofs.Mirror.{or_num, folded_un, folded_bin, folded_ex, folded_st, folded_bl, folded_ls, folded_fn, folded_tree}
 use Rattle.mc_fold.proofs.Meaning.{params_folded}
 
 -- operand words

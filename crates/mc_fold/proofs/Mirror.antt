@@ -1,5 +1,5 @@
 -- Folding of plain trees.
-use Rattle.std.proofs.Common.{ℕ, ℤ, List, [], ◌∷◌, Option, Some, None, map}
+use Rattle.std.proofs.Common.{ℤ, Option, Some, None, map}
 use Rattle.mars_base.specs.declared.word.BinOp.{BinOp}
 use Rattle.mars_base.specs.declared.word.UnOp.{UnOp}
 use Rattle.mars_base.specs.Word.{binary_of, unary_of}

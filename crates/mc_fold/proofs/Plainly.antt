@@ -1,5 +1,5 @@
 -- The plain tree of a folded task is the folded plain tree.
-use Rattle.std.proofs.Common.{◌≡◌, ℕ, ℤ, List, [], ◌∷◌, Option, Some, None, map, refl, ap, ◌∙◌, sym, subst}
+use Rattle.std.proofs.Common.{◌≡◌, ℤ, List, [], ◌∷◌, Option, Some, None, map, refl, ap, ◌∙◌, sym, subst}
 use Rattle.mars_base.specs.declared.word.BinOp.{BinOp}
 use Rattle.mars_base.specs.declared.word.UnOp.{UnOp}
 use Rattle.mars_base.specs.Word.{binary_of, unary_of}
@@ -14,8 +14,8 @@ use Rattle.mc_tree.specs.declared.tree.Expr.TheVariants as e
 use Rattle.mc_tree.specs.declared.tree.Stmt.{Stmt, map-Stmt, roll-Stmt, ind-Stmt}
 use Rattle.mc_tree.specs.declared.tree.Stmt.TheOpen as S
 use Rattle.mc_tree.specs.declared.tree.Stmt.TheVariants as s
-use Rattle.mc_tree.specs.Plain.{place_in, width_in, ex_of, plain_expr, plain_stmt, plain_list, plain_loops, block_of, series_of, loop_before, plain_func, plain_task}
-use Rattle.mc_tree.specs.Tree.{Ex, Elem, Un, Bin, St, Assign, AssignAt, Invoke, When, Choice, Loop, Scoped, Count, Series, Bl, Nil, Then, Ls, NoLoop, OneLoop, Fn}
+use Rattle.mc_tree.specs.Plain.{place_in, width_in, ex_of, plain_expr, plain_stmt, plain_list, plain_loops, loop_before, plain_func, plain_task}
+use Rattle.mc_tree.specs.Tree.{Ex, Elem, St, Assign, AssignAt, Invoke, When, Choice, Loop, Scoped, Count, Series, Then, Ls}
 use Rattle.mc_tree.proofs.Plain.{plain_number, plain_cell, plain_at, plain_unary, plain_binary, plain_set, plain_set_at, plain_call, plain_when, plain_choice, plain_while, plain_scope, plain_mark, plain_sequence}
 use Rattle.mc_fold.specs.Folded.{number_in, number_of, or_number, folded_expr, folded_stmt, folded_func, folded_task}
 use Rattle.mc_fold.proofs.Mirror.{num_of, or_num, folded_un, folded_bin, folded_ex, folded_st, folded_bl, folded_ls, folded_fn, folded_tree}

@@ -1,5 +1,5 @@
 -- One level of a folded tree: a line for each variant.
-use Rattle.std.proofs.Common.{◌≡◌, ℕ, ℤ, List, Option, Some, None, map, ap, ◌∙◌, sym}
+use Rattle.std.proofs.Common.{◌≡◌, ℕ, ℤ, List, Some, None, map, ap, ◌∙◌, sym}
 use Rattle.mars_base.specs.declared.word.BinOp.{BinOp}
 use Rattle.mars_base.specs.declared.word.UnOp.{UnOp}
 use Rattle.mc_tree.specs.declared.tree.Expr.{Expr, fold-roll-Expr}

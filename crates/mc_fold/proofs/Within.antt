@@ -1,5 +1,5 @@
 -- A folded task names the same cells and functions, and its sequences are of whiles.
-use Rattle.std.proofs.Common.{◌≡◌, ℕ, ◌+◌, ◌<◌, ◌≤◌, ℤ, List, [], ◌∷◌, Option, Some, None, Bool, true, false, ◌&&◌, length, map, refl, ap, ◌∙◌, sym, subst, arith}
+use Rattle.std.proofs.Common.{◌≡◌, ℕ, ℤ, List, [], ◌∷◌, Option, Some, None, Bool, true, false, ◌&&◌, length, map, refl, ap, ◌∙◌, sym, subst, arith}
 use Rattle.std.specs.Prelude.{nat_lt, IsTrue}
 use Rattle.std.specs.List.{All, list_all}
 use Rattle.std.proofs.lemmas.List.{length-map}
@@ -14,7 +14,7 @@ use Rattle.mc_tree.specs.declared.tree.Expr.TheVariants as e
 use Rattle.mc_tree.specs.declared.tree.Stmt.{Stmt, map-Stmt, roll-Stmt, ind-Stmt, fold-roll-Stmt}
 use Rattle.mc_tree.specs.declared.tree.Stmt.TheOpen as S
 use Rattle.mc_tree.specs.declared.tree.Stmt.TheVariants as s
-use Rattle.mc_tree.specs.CheckedTask.{names_in, is_expr_within, Look, all_within, all_loops, within_option, plainly, look_at, look_stmt, IsWithin, IsFuncWithin, IsCheckedTask}
+use Rattle.mc_tree.specs.CheckedTask.{names_in, is_expr_within, Look, all_within, all_loops, plainly, look_at, look_stmt, IsWithin, IsFuncWithin, IsCheckedTask}
 use Rattle.mc_tree.specs.Checked.{IsChecked}
 use Rattle.mc_tree.specs.Plain.{plain_task}
 use Rattle.mc_tree.specs.Size.{tree_nodes}

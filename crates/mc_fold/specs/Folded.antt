@@ -1,7 +1,7 @@
 -- Folding: each operator whose operands, folded themselves, are numbers and which has a word for them becomes that
 -- word. Nothing else changes; so `1 / 0` stays, and still breaks.
 -- This project's own.
-use Rattle.std.specs.Prelude.{ℕ, ℤ, List, map, Option, Some, None}
+use Rattle.std.specs.Prelude.{ℤ, map, Option, Some, None}
 use Rattle.mars_base.specs.declared.word.BinOp.{BinOp}
 use Rattle.mars_base.specs.declared.word.UnOp.{UnOp}
 use Rattle.mars_base.specs.Word.{binary_of, unary_of}

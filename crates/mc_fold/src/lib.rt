@@ -4,5 +4,7 @@
 mod expression;
 mod statement;
 mod task;
+#[cfg(test)]
+mod tests;
 
 pub use task::fold;
