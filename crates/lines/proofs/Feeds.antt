@@ -1,9 +1,10 @@
 -- Where the first line feed stands.
-use Rattle.std.proofs.Common.{◌≡◌, ℕ, ◌+◌, ◌-◌, ◌<◌, ◌≤◌, List, length, take, drop, get_or, Option, Some, None, MatchOption, sym, ap, ◌∙◌, subst, arith, ◌⊎◌, inl, inr, eq-eqb}
-use Rattle.std.proofs.lemmas.List.{get_or-drop, get_or-take, length-drop}
+use Rattle.std.proofs.Common.{◌≡◌, ◌↔◌, IsTrue, Bool, is_some, refl, ℕ, ◌+◌, ◌-◌, ◌<◌, ◌≤◌, List, length, take, drop, get_or, Option, Some, None, MatchOption, sym, ap, ◌∙◌, subst, arith, ◌⊎◌, inl, inr, eq-eqb}
+use Rattle.std.proofs.lemmas.List.{get_or-drop, get_or-take, length-drop, length-take}
 use Rattle.std.proofs.lemmas.Bool.{eqb-true}
+use Rattle.std.specs.Option.{ForSome, ForNone}
 use Rattle.memchr.specs.Find.{IsFirstByte, is_byte}
-use Rattle.lines.specs.Found.{NoFeedBelow, IsFirstFeed, Finds, FindsFeed}
+use Rattle.lines.specs.Found.{NoFeedBelow, IsFirstFeed, Finds, FindsFeed, HoldsFeed, IsFeed}
 use Rattle.lines.specs.declared.reader.Found.{Found}
 use Rattle.lines.specs.declared.reader.Found.TheVariants as found
 
@@ -45,3 +46,24 @@ finds_feed kept left place found.Long first h = let within = first.within in (pl
 -- more bytes behind those that are kept
 pub still_none : (kept more : List ℕ) → take (length kept) more ≡ kept → NoFeedBelow (length kept) kept → NoFeedBelow (length kept) more
 still_none kept more same none k lt here = none k lt (ap (λ (t : List ℕ). get_or t k 0) (sym same) ∙ get_or-take (length kept) more k 0 lt ∙ here)
+
+holds_none : (bytes : List ℕ) → NoFeedBelow (length bytes) bytes → HoldsFeed bytes → ⊥
+holds_none bytes none holds = none holds.0 holds.1 holds.2
+
+-- whether the bytes hold a line feed, by where the first one stands
+pub holds_by : (r : Bool) (f : Option ℕ) (bytes : List ℕ) → r ≡ is_some f → ForNone f (NoFeedBelow (length bytes) bytes) → ForSome f (λ n. IsFirstFeed n bytes) → IsTrue r ↔ HoldsFeed bytes
+holds_by r None bytes e none first = (λ t. absurd (cc (t, e)), λ h. absurd (holds_none bytes (none refl) h))
+holds_by r (Some n) bytes e none first = (λ t. (n, (first n refl).within, (first n refl).here), λ h. e)
+
+-- the two halves of where the first line feed stands
+pub feed_none : (f : Option ℕ) (bytes : List ℕ) → IsFeed f bytes → ForNone f (NoFeedBelow (length bytes) bytes)
+feed_none None bytes is e = is
+feed_none (Some n) bytes is e = absurd (cc)
+
+pub feed_some : (f : Option ℕ) (bytes : List ℕ) → IsFeed f bytes → ForSome f (λ n. IsFirstFeed n bytes)
+feed_some None bytes is n e = absurd (cc)
+feed_some (Some m) bytes is n e = subst (λ (k : ℕ). IsFirstFeed k bytes) (cc) is
+
+-- the line that a line feed ends has none within it
+pub single_fed : (place : ℕ) (kept : List ℕ) → NoFeedBelow place kept → NoFeedBelow (length (take place kept)) (take place kept)
+single_fed place kept none k lt here = let short = length-take place kept in none k (omega (arith, short)) (sym (get_or-take place kept k 0 (omega (arith, short))) ∙ here)

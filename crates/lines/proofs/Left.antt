@@ -1,5 +1,5 @@
 -- What the first line of what is left says of the lines that are left.
-use Rattle.std.proofs.Common.{◌≡◌, ◌⊎◌, inl, inr, ℕ, ◌+◌, ◌<◌, ◌≤◌, Bool, true, false, cond, List, [], ◌∷◌, ◌++◌, length, take, drop, get_or, Option, Some, None, IfSome, ℤ, refl, sym, ap, ◌∙◌, subst, arith, add-one, leb, eqb}
+use Rattle.std.proofs.Common.{◌≡◌, ◌⊎◌, inl, inr, ℕ, suc, append_assoc, take-append-drop, drop-cons, ◌+◌, ◌<◌, ◌≤◌, Bool, true, false, cond, List, [], ◌∷◌, ◌++◌, length, take, drop, get_or, Option, Some, None, IfSome, ℤ, refl, sym, ap, ◌∙◌, subst, arith, add-one, leb, eqb}
 use Rattle.std.specs.Option.{option_map}
 use Rattle.std.proofs.lemmas.List.{append-nil, drop_all, length-take}
 use Rattle.std.specs.Io.KnownBytes.{prepend_known, IsAtEnd}
@@ -153,6 +153,27 @@ long_refused n m width was kept old left same long e =
     (too_long n width long.0 kept left long.1 long.2 long.3))
 
 -- what a test on the length says
-pub some_kept : (tested kept : List ℕ) → tested ≡ kept → false ≡ eqb (length tested) 0 → 0 < length kept
-some_kept [] kept e test = cc
+pub some_kept : (tested kept : List ℕ) → tested ≡ kept → (length tested ≡ 0 → ⊥) → 0 < length kept
+some_kept [] kept e test = absurd (test refl)
 some_kept (b ∷ bs) kept e test = let long = ap length (sym e) in omega (arith, long)
+
+-- the bytes of the line that a line feed ends, and what follows it
+fed_bytes : (place : ℕ) (kept : List ℕ) → place < length kept → get_or kept place 0 ≡ 10 → (take place kept ++ 10 ∷ []) ++ drop (place + 1) kept ≡ kept
+fed_bytes place kept lt here =
+    append_assoc (take place kept) (10 ∷ []) (drop (place + 1) kept)
+    ∙ ap (λ (t : List ℕ). take place kept ++ t) (ap (λ (n : ℕ). 10 ∷ drop n kept) (add-one place) ∙ ap (λ (b : ℕ). b ∷ drop (suc place) kept) (sym here) ∙ sym (drop-cons kept place 0 lt))
+    ∙ take-append-drop place kept
+
+pub fed_reads : (place : ℕ) (was kept rest : List ℕ) (old left : Option (List ℕ)) → prepend_known kept left ≡ prepend_known was old → place < length kept → get_or kept place 0 ≡ 10 → rest ≡ drop (place + 1) kept
+    → prepend_known was old ≡ prepend_known (take place kept ++ 10 ∷ []) (prepend_known rest left)
+fed_reads place was kept rest old None same lt here used = sym same
+fed_reads place was kept rest old (Some more) same lt here used = sym same
+    ∙ ap Some (ap (λ (t : List ℕ). t ++ more) (sym (fed_bytes place kept lt here)) ∙ append_assoc (take place kept ++ 10 ∷ []) (drop (place + 1) kept) more
+      ∙ ap (λ (t : List ℕ). (take place kept ++ 10 ∷ []) ++ (t ++ more)) (sym used))
+
+-- and of the line that the end of the text ends
+pub unfed_reads : (was kept rest : List ℕ) (old left : Option (List ℕ)) → prepend_known kept left ≡ prepend_known was old → rest ≡ drop (length kept) kept
+    → prepend_known was old ≡ prepend_known kept (prepend_known rest left)
+unfed_reads was kept rest old None same used = sym same
+unfed_reads was kept rest old (Some more) same used = sym same
+    ∙ ap Some (ap (λ (t : List ℕ). kept ++ (t ++ more)) (sym (used ∙ drop_all (length kept) kept (omega arith))))

@@ -2,7 +2,7 @@
 use Rattle.std.proofs.Common.{◌≡◌, ℕ, ◌+◌, ◌<◌, List, [], ◌∷◌, ◌++◌, length, take, Option, Some, None, ℤ, refl, sym, ap, ◌∙◌, arith, cond, slice_set, eqb, eq-eqb}
 use Rattle.std.proofs.lemmas.List.{append_assoc, append-nil, length-append, length-take, take_all, take_more_set}
 use Rattle.std.proofs.lemmas.Bool.{false_from_ne_true, eqb-true}
-use Rattle.lines.specs.Grammar.{◌>>=◌, word_of, words_in, of_width}
+use Rattle.lines.specs.Grammar.{◌>>=◌, onto_words, word_of, words_in, of_width}
 
 -- the words of what is left, behind those that were read
 abbrev pub behind : List ℤ → Option (List ℤ) → Option (List ℤ)
@@ -14,18 +14,18 @@ words_in-empty [] more e = refl
 words_in-empty (b ∷ bs) more e = absurd (omega arith)
 
 -- a part that has something in it
-pub words_in-part : (part : List ℕ) (more : List (List ℕ)) → 0 < length part → words_in (part ∷ more) ≡ (word_of part >>= λ w. words_in more >>= λ ws. Some (w ∷ ws))
+pub words_in-part : (part : List ℕ) (more : List (List ℕ)) → 0 < length part → words_in (part ∷ more) ≡ (word_of part >>= onto_words (words_in more))
 words_in-part [] more some = absurd (omega arith)
 words_in-part (b ∷ bs) more some = refl
 
 -- a part that is no word spoils the line
 pub spoiled : (front : List ℤ) (part : List ℕ) (more : List (List ℕ)) → 0 < length part → word_of part ≡ None → behind front (words_in (part ∷ more)) ≡ None
-spoiled front part more some bad = ap (behind front) (words_in-part part more some ∙ ap (λ o. o >>= λ w. words_in more >>= λ ws. Some (w ∷ ws)) bad)
+spoiled front part more some bad = ap (behind front) (words_in-part part more some ∙ ap (λ o. o >>= onto_words (words_in more)) bad)
 
 -- a word, and what is left behind it
 pub one_word : (front : List ℤ) (part : List ℕ) (more : List (List ℕ)) (w : ℤ) → 0 < length part → word_of part ≡ Some w
     → behind front (words_in (part ∷ more)) ≡ behind front (words_in more >>= λ ws. Some (w ∷ ws))
-one_word front part more w some is = ap (behind front) (words_in-part part more some ∙ ap (λ o. o >>= λ v. words_in more >>= λ ws. Some (v ∷ ws)) is)
+one_word front part more w some is = ap (behind front) (words_in-part part more some ∙ ap (λ o. o >>= onto_words (words_in more)) is)
 
 -- the word goes behind those that were read
 pub read_more : (into : List ℤ) (count : ℕ) (w : ℤ) (o : Option (List ℤ)) → count < length into

@@ -1,7 +1,6 @@
 -- What stands first among bytes.
-use Rattle.std.specs.Prelude.{◌≡◌, ℕ, ◌+◌, ◌<◌, ◌≤◌, List, length, drop, slice_index, Bool, true}
+use Rattle.std.specs.Prelude.{◌≡◌, ℕ, ◌+◌, ◌<◌, ◌≤◌, List, length, drop, slice_index, Bool, true, Option, MatchOption, ◌⊎◌}
 use Rattle.std.specs.Io.KnownBytes.{IsAtEnd}
-use Rattle.std.specs.Prelude.{Option}
 use Rattle.lines.specs.declared.reader.Found.{Found}
 use Rattle.lines.specs.declared.reader.Found.TheVariants.{Feed, Rest, Long}
 
@@ -18,6 +17,12 @@ abbrev pub FindsFeed : ℕ → Found → Type 0
 FindsFeed place (Feed n) = (n ≡ place) × (n ≤ 65536)
 FindsFeed place Rest = ⊥
 FindsFeed place Long = 65536 < place
+
+-- what so many bytes without a line feed mean
+abbrev pub WithoutFeed : ℕ → Found → Type 0
+WithoutFeed count (Feed n) = ⊥
+WithoutFeed count Rest = count ≤ 65536
+WithoutFeed count Long = 65536 < count
 
 -- the first line feed stands at a place
 pub record IsFirstFeed (n : ℕ) (bytes : List ℕ) : Type 0 where
@@ -37,3 +42,11 @@ pub record Passes (kept rest : List ℕ) (count counted : ℕ) (is_line : Bool) 
   pub few : count < 1000000
   pub used : rest ≡ drop taken kept
   pub one_more : counted ≡ count + 1
+
+-- where the first line feed stands, or that there is none
+abbrev pub IsFeed : Option ℕ → List ℕ → Type 0
+IsFeed found bytes = MatchOption found (NoFeedBelow (length bytes) bytes) (λ n. IsFirstFeed n bytes)
+
+-- no line feed came: the bytes are too many for a line, or nothing follows them
+abbrev pub NoneCame : List ℕ → Option (List ℕ) → Type 0
+NoneCame kept left = (65536 < length kept) ⊎ ((length kept ≤ 65536) × IsAtEnd left)

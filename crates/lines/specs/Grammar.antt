@@ -32,15 +32,25 @@ word_below n = if nat_lt n (2 ^ 31) then Some (pos n) else None
 abbrev pub minus_word : ℕ → Option ℤ
 minus_word n = if nat_le n (2 ^ 31) then Some (neg_ℤ (pos n)) else None
 
--- an optional minus and digits
+-- digits, and an optional minus and digits
+abbrev pub unsigned_word : List ℕ → Option ℤ
+unsigned_word ds = number_of ds >>= word_below
+
+abbrev pub negative_word : List ℕ → Option ℤ
+negative_word ds = number_of ds >>= minus_word
+
 abbrev pub word_of : List ℕ → Option ℤ
 word_of [] = None
-word_of (b ∷ ds) = if b == 45 then number_of ds >>= minus_word else number_of (b ∷ ds) >>= word_below
+word_of (b ∷ ds) = if b == 45 then negative_word ds else unsigned_word (b ∷ ds)
+
+-- a word before those of the parts behind it
+abbrev pub onto_words : Option (List ℤ) → ℤ → Option (List ℤ)
+onto_words more w = more >>= λ ws. Some (w ∷ ws)
 
 abbrev pub words_in : List (List ℕ) → Option (List ℤ)
 words_in [] = Some []
 words_in ([] ∷ more) = words_in more
-words_in ((b ∷ bs) ∷ more) = word_of (b ∷ bs) >>= λ w. words_in more >>= λ ws. Some (w ∷ ws)
+words_in ((b ∷ bs) ∷ more) = word_of (b ∷ bs) >>= onto_words (words_in more)
 
 abbrev pub of_width : ℕ → List ℤ → Option (List ℤ)
 of_width width ws = if length ws == width then Some ws else None

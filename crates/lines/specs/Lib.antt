@@ -2,4 +2,5 @@ pub mod Found
 pub mod Gathered
 pub mod Grammar
 pub mod Lines
+pub mod Parts
 pub mod Reader

@@ -1,5 +1,5 @@
 -- The lines of an input, from the first on, up to its end or the first that isn't in the grammar.
-use Rattle.std.specs.Prelude.{ℕ, ◌+◌, ◌==◌, nat_le, Bool, true, false, if◌then◌else◌, List, [], ◌∷◌, length, Option, Some, None, ℤ}
+use Rattle.std.specs.Prelude.{ℕ, ◌+◌, ◌==◌, nat_le, Bool, true, false, if◌then◌else◌, List, [], ◌∷◌, ◌++◌, length, Option, Some, None, ℤ}
 use Rattle.lines.specs.Grammar.{words_of}
 
 -- a line: the bytes before its end, and whether a line feed ends it (else the input does)
@@ -16,6 +16,15 @@ onto_line b (l ∷ ls) = (record { bytes = b ∷ l.bytes; feed = l.feed }) ∷ l
 abbrev pub lines_in : List ℕ → List RawLine
 lines_in [] = []
 lines_in (b ∷ bs) = if b == 10 then (record { bytes = []; feed = true }) ∷ lines_in bs else onto_line b (lines_in bs)
+
+-- a line with the line feed that ends it
+abbrev pub whole_bytes : RawLine → List ℕ
+whole_bytes line = if line.feed then line.bytes ++ 10 ∷ [] else line.bytes
+
+-- the lines that a line feed ends
+abbrev pub fed_lines : List RawLine → List RawLine
+fed_lines [] = []
+fed_lines (l ∷ ls) = if l.feed then l ∷ fed_lines ls else fed_lines ls
 
 -- a carriage return directly before the line feed is a blank
 abbrev pub without_return : List ℕ → List ℕ
@@ -48,3 +57,7 @@ lines_from n width (line ∷ lines) = onto_lines n (line_words width line) (line
 -- the lines of an input, counted from 1
 abbrev pub lines_of : ℕ → List ℕ → Lines
 lines_of width bytes = lines_from 1 width (lines_in bytes)
+
+-- the lines of a front of an input that line feeds end within it
+abbrev pub whole_lines_of : ℕ → List ℕ → Lines
+whole_lines_of width bytes = lines_from 1 width (fed_lines (lines_in bytes))

@@ -1,10 +1,11 @@
 //! The lines of an input.
-ghost use Rattle.std.specs.Prelude.{◌≡◌, ◌≤◌, ◌+◌, ℕ, Ok, Err, Some, IfOk, IfErr, IfSome, IsTrue, MatchResult, MatchOption, ◌↔◌, ◌⊎◌, ◌<◌, false, [], length};
-ghost use Rattle.std.specs.Option.{option_map};
+ghost use Rattle.std.specs.Prelude.{◌≡◌, ◌≤◌, ◌+◌, ℕ, Ok, Err, Some, None, IfOk, IsErr, OnErr, IfSome, IfNone, IsTrue, ◌↔◌, ◌⊎◌, ◌<◌, true, false, [], length, take};
+ghost use Rattle.std.specs.Option.{option_map, ForSome, ForNone};
 ghost use Rattle.std.specs.Io.KnownBytes.{prepend_known, IsAtEnd};
 ghost use Rattle.mars_base.specs.Causes.{HasCause, Rose};
-ghost use Rattle.lines.specs.Found.{Passes, Finds, FindsFeed, HoldsFeed, IsFirstFeed, NoFeedBelow};
+ghost use Rattle.lines.specs.Found.{Passes, Finds, FindsFeed, HoldsFeed, IsFeed, IsFirstFeed, NoFeedBelow, NoneCame, WithoutFeed};
 
+use crate::LineBuf;
 use crate::grammar::{cut_return, read_words};
 use crate::window::{LONGEST, Window};
 use mars_base::{Memory, Source, SourceFault};
@@ -53,26 +54,37 @@ enum Found {
 }
 
 /// Reads an input line by line. It takes all its memory at once, keeps what it took beyond a line, and
-/// asks its source only where that holds no line feed.
+/// asks its source only where that holds no line feed, and never behind its end. Each byte is searched
+/// once for a line feed.
 #[derive(Drop)]
 pub struct LineReader {
     window: Window,
     count: u64,
+    // Where the first line feed stands among the bytes that are kept.
+    feed: Option<usize>,
+    // Whether the source came to its end; nothing is kept then.
+    ended: bool,
     ghost counted: { count ≤ 1000000 },
+    ghost none: { ForNone feed (NoFeedBelow (length window) window) },
+    ghost first: { ForSome feed (λ n. IsFirstFeed n window) },
+    ghost over: { ended ≡ true → window ≡ [] },
 }
 
 impl LineReader {
-    ghost use Rattle.lines.specs.Reader.{kept_of, count_of, lines_left};
+    ghost use Rattle.lines.specs.Reader.{kept_of, count_of, is_over, lines_left, ReadsLine, StillHolds};
     ghost use Rattle.lines.specs.Lines.{Line, Bad, End};
 
     /// A reader at the first line.
     pub fn new(alloc: Global) -> Result<LineReader, Memory>
         ensures kept { IfOk result (λ r. kept_of r ≡ []) }
         ensures count { IfOk result (λ r. count_of r ≡ 0) }
+        ensures over { IfOk result (λ r. is_over r ≡ false) }
     {
         Ok(LineReader {
             window: Window::new(alloc)?,
             count: 0,
+            feed: None,
+            ended: false,
         })
     }
 
@@ -80,41 +92,109 @@ impl LineReader {
     pub fn holds_line(&self) -> bool
         ensures { IsTrue result ↔ HoldsFeed (kept_of self.now) }
     {
-        memchr(b'\n', self.window.bytes()).is_some()
+        self.feed.is_some()
     }
 
-    /// Puts the words of the next line into `into`, which has as many places as a line has words.
-    pub fn next<I: Source>(&mut self, source: &mut I, into: &mut [i32]) -> Result<Next, LineFault>
+    /// Puts the words of the next line into `into`, which has as many places as a line has words. `unsent`
+    /// is the text that the lines before gave: where the source is asked, none of it waits any more.
+    pub fn next<I: Source>(
+        &mut self,
+        source: &mut I,
+        unsent: &LineBuf,
+        into: &mut [i32],
+    ) -> Result<Next, LineFault>
+        requires sent { HoldsFeed (kept_of self.old) ⊎ (unsent.now ≡ []) }
+        requires over { is_over self.old ≡ true → IsAtEnd (I.left source.old) }
+        ensures alone { HoldsFeed (kept_of self.old) → source.new ≡ source.old }
         ensures line { result ≡ Ok Next.Line → lines_left self.old (I.left source.old) (length into.old) ≡ option_map (Line into.new) (lines_left self.new (I.left source.new) (length into.old)) }
         ensures counted { result ≡ Ok Next.Line → (count_of self.new ≡ count_of self.old + 1) × (count_of self.old < 1000000) }
+        ensures reads { result ≡ Ok Next.Line → ReadsLine self.old self.new (I.left source.old) (I.left source.new) (length into.old) into.new }
         ensures end { result ≡ Ok Next.End → IfSome (lines_left self.old (I.left source.old) (length into.old)) (λ lines. lines ≡ End) }
-        ensures at_end { result ≡ Ok Next.End → IsAtEnd (I.left source.new) }
+        ensures over { is_over self.new ≡ true → IsAtEnd (I.left source.new) }
+        ensures at_end { result ≡ Ok Next.End → is_over self.new ≡ true }
         ensures bad { (n : ℕ) → result ≡ Err (LineFault.Bad n) → IfSome (lines_left self.old (I.left source.old) (length into.old)) (λ lines. lines ≡ Bad n) }
         ensures read { result ≡ Err LineFault.Read → Rose (I.faults source.old) (I.faults source.new) }
+        ensures still { result ≡ Err LineFault.Read → StillHolds self.old self.new (I.left source.old) (I.left source.new) }
         ensures later { I.faults source.old ≤ I.faults source.new }
     {
-        match find_line(&mut self.window, source)? {
+        if self.ended {
+            return Ok(Next::End);
+        }
+        match self.find_line(source, unsent)? {
             Found::Long => Err(LineFault::Bad(self.count + 1)),
             Found::Feed(place) => {
                 let is_line = read_words(cut_return(&self.window.bytes()[..place]), into);
-                self.pass(is_line, place + 1)
+                self.pass(is_line, place + 1, false)
             }
             Found::Rest => {
                 let kept = self.window.bytes();
-                if kept.is_empty() {
+                let taken = kept.len();
+                if taken == 0 {
+                    self.ended = true;
                     return Ok(Next::End);
                 }
-                let taken = kept.len();
                 let is_line = read_words(kept, into);
-                self.pass(is_line, taken)
+                self.pass(is_line, taken, true)
             }
         }
     }
 
-    // Goes over the first bytes, where they are a line and not one too many.
-    fn pass(&mut self, is_line: bool, taken: usize) -> Result<Next, LineFault>
-        requires { taken ≤ length (kept_of self.old) }
+    // What stands first, of the bytes that are kept or of what the source still gives.
+    fn find_line<I: Source>(
+        &mut self,
+        source: &mut I,
+        unsent: &LineBuf,
+    ) -> Result<Found, SourceFault>
+        requires going { is_over self.old ≡ false }
+        requires sent { HoldsFeed (kept_of self.old) ⊎ (unsent.now ≡ []) }
+        ensures bytes { prepend_known (kept_of self.new) (I.left source.new) ≡ prepend_known (kept_of self.old) (I.left source.old) }
+        ensures front { take (length (kept_of self.old)) (kept_of self.new) ≡ kept_of self.old }
+        ensures found { IfOk result (λ found. Finds (kept_of self.new) (I.left source.new) found) }
+        ensures alone { HoldsFeed (kept_of self.old) → source.new ≡ source.old }
+        ensures single { IsErr result → HoldsFeed (kept_of self.new) → ⊥ }
+        ensures count { count_of self.new ≡ count_of self.old }
+        ensures going { is_over self.new ≡ false }
+        ensures cause { HasCause (I.faults source.old) (I.faults source.new) result }
+    {
+        match self.feed {
+            Some(place) => Ok(feed_at(place)),
+            None => self.ask_line(source, unsent),
+        }
+    }
+
+    // The same, where no line feed is kept.
+    fn ask_line<I: Source>(
+        &mut self,
+        source: &mut I,
+        unsent: &LineBuf,
+    ) -> Result<Found, SourceFault>
+        requires going { is_over self.old ≡ false }
+        requires none { self.old.feed ≡ None }
+        requires sent { unsent.now ≡ [] }
+        ensures bytes { prepend_known (kept_of self.new) (I.left source.new) ≡ prepend_known (kept_of self.old) (I.left source.old) }
+        ensures front { take (length (kept_of self.old)) (kept_of self.new) ≡ kept_of self.old }
+        ensures found { IfOk result (λ found. Finds (kept_of self.new) (I.left source.new) found) }
+        ensures none { OnErr result (NoFeedBelow (length (kept_of self.new)) (kept_of self.new)) }
+        ensures count { count_of self.new ≡ count_of self.old }
+        ensures going { is_over self.new ≡ false }
+        ensures cause { HasCause (I.faults source.old) (I.faults source.new) result }
+    {
+        self.feed = fill_to_feed(&mut self.window, source, unsent)?;
+        match self.feed {
+            Some(place) => Ok(feed_at(place)),
+            None => Ok(without_feed(self.window.bytes())),
+        }
+    }
+
+    // Goes over the first bytes, where they are a line and not one too many; `last` tells that no more
+    // follow them.
+    fn pass(&mut self, is_line: bool, taken: usize, last: bool) -> Result<Next, LineFault>
+        requires going { is_over self.old ≡ false }
+        requires within { taken ≤ length (kept_of self.old) }
+        requires last { last ≡ true → taken ≡ length (kept_of self.old) }
         ensures line { result ≡ Ok Next.Line → Passes (kept_of self.old) (kept_of self.new) (count_of self.old) (count_of self.new) is_line taken }
+        ensures over { result ≡ Ok Next.Line → is_over self.new ≡ last }
+        ensures going { IsErr result → is_over self.new ≡ false }
         ensures bad { (n : ℕ) → result ≡ Err (LineFault.Bad n) → (n ≡ count_of self.old + 1) × ((is_line ≡ false) ⊎ (1000000 < n)) }
         ensures no_end { result ≡ Ok Next.End → ⊥ }
         ensures no_read { result ≡ Err LineFault.Read → ⊥ }
@@ -123,38 +203,47 @@ impl LineReader {
             return Err(LineFault::Bad(self.count + 1));
         }
         self.window.consume(taken);
+        self.feed = next_feed(self.window.bytes(), 0);
         self.count += 1;
+        self.ended = last;
         Ok(Next::Line)
     }
 }
 
-// Takes bytes from the source until what stands first is known.
-fn find_line<I: Source>(window: &mut Window, source: &mut I) -> Result<Found, SourceFault>
+// Takes bytes from the source until the first line feed comes, and answers its place; or until there are
+// more than a line has, or the input ends, and answers None.
+fn fill_to_feed<I: Source>(
+    window: &mut Window,
+    source: &mut I,
+    unsent: &LineBuf,
+) -> Result<Option<usize>, SourceFault>
+    requires none { NoFeedBelow (length window.old) window.old }
+    requires sent { unsent.now ≡ [] }
     ensures bytes { prepend_known window.new (I.left source.new) ≡ prepend_known window.old (I.left source.old) }
-    ensures found { IfOk result (λ found. Finds window.new (I.left source.new) found) }
+    ensures front { take (length window.old) window.new ≡ window.old }
+    ensures feed { IfOk result (λ feed. IsFeed feed window.new) }
+    ensures came { IfOk result (λ feed. IfNone feed (NoneCame window.new (I.left source.new))) }
+    ensures none { OnErr result (NoFeedBelow (length window.new) window.new) }
     ensures cause { HasCause (I.faults source.old) (I.faults source.new) result }
 {
-    let mut searched = 0;
-    loop {
-        let kept = window.bytes();
-        if let Some(place) = next_feed(kept, searched) {
-            return Ok(feed_at(place));
+    let mut searched = window.bytes().len();
+    while searched <= LONGEST {
+        if window.fill(source, unsent)? == 0 {
+            return Ok(None);
         }
-        searched = kept.len();
-        if searched > LONGEST {
-            return Ok(Found::Long);
+        if let Some(place) = next_feed(window.bytes(), searched) {
+            return Ok(Some(place));
         }
-        if window.fill(source)? == 0 {
-            return Ok(Found::Rest);
-        }
+        searched = window.bytes().len();
     }
+    Ok(None)
 }
 
 // The place of the first line feed, where none stands among the bytes that were searched.
 fn next_feed(kept: &[u8], searched: usize) -> Option<usize>
     requires within { searched ≤ length kept.now }
     requires none { NoFeedBelow searched kept.now }
-    ensures { MatchOption result (NoFeedBelow (length kept.now) kept.now) (λ n. IsFirstFeed n kept.now) }
+    ensures { IsFeed result kept.now }
 {
     match memchr(b'\n', &kept[searched..]) {
         Some(place) => Some(searched + place),
@@ -162,13 +251,16 @@ fn next_feed(kept: &[u8], searched: usize) -> Option<usize>
     }
 }
 
-// A line feed at a place, or a line that is too long.
+// What the first line feed, which stands at a place, means.
 fn feed_at(place: usize) -> Found
     ensures { FindsFeed place result }
 {
-    if place > LONGEST {
-        Found::Long
-    } else {
-        Found::Feed(place)
-    }
+    if place <= LONGEST { Found::Feed(place) } else { Found::Long }
+}
+
+// What bytes without a line feed mean, where more than a line has came or the input ended.
+fn without_feed(kept: &[u8]) -> Found
+    ensures { WithoutFeed (length kept.now) result }
+{
+    if kept.len() <= LONGEST { Found::Rest } else { Found::Long }
 }

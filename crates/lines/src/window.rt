@@ -3,6 +3,7 @@ ghost use Rattle.std.specs.Prelude.{◌≡◌, ◌+◌, ◌<◌, ◌≤◌, [], 
 ghost use Rattle.std.specs.Io.KnownBytes.{prepend_known, IsAtEnd};
 ghost use Rattle.mars_base.specs.Causes.{HasCause};
 
+use crate::LineBuf;
 use mars_base::{Memory, Source, SourceFault};
 use std::alloc::Global;
 use std::marker::Model;
@@ -59,9 +60,11 @@ impl Window {
         self.start += count;
     }
 
-    /// Takes more bytes from the source and answers how many; 0 exactly where none is left.
-    pub fn fill<I: Source>(&mut self, source: &mut I) -> Result<usize, SourceFault>
-        requires { length self.old ≤ 65536 }
+    /// Takes more bytes from the source and answers how many; 0 exactly where none is left. No text
+    /// waits unsent when it is asked.
+    pub fn fill<I: Source>(&mut self, source: &mut I, unsent: &LineBuf) -> Result<usize, SourceFault>
+        requires short { length self.old ≤ 65536 }
+        requires sent { unsent.now ≡ [] }
         ensures bytes { prepend_known self.new (I.left source.new) ≡ prepend_known self.old (I.left source.old) }
         ensures kept { take (length self.old) self.new ≡ self.old }
         ensures count { MatchResult result (λ n. length self.new ≡ length self.old + n) (λ _. self.new ≡ self.old) }
@@ -72,6 +75,8 @@ impl Window {
             compact(&mut self.bytes, self.start);
             self.start = 0;
         }
+        let nothing_waits = unsent.is_empty();
+        prove!(nothing_waits);
         let mut chunk = [0u8; CHUNK];
         let count = source.read(&mut chunk)?;
         let _ = self.bytes.extend_from_slice(&chunk[..count]);
