@@ -1,5 +1,5 @@
 -- Gathered text grows, is sent, and is sent in part.
-use Rattle.std.proofs.Common.{◌≡◌, ℕ, List, [], ◌∷◌, ◌++◌, take, drop, Option, None, Some, refl, sym, ap, ◌∙◌, subst, take-append-drop, Result, Ok, Err, length, ◌+◌, ◌≤◌, ◌<◌, min, get_or, add-one, arith}
+use Rattle.std.proofs.Common.{◌≡◌, ℕ, List, [], ◌++◌, take, drop, Option, None, Some, refl, sym, ap, ◌∙◌, subst, take-append-drop, Result, Ok, Err, length, ◌+◌, ◌≤◌, ◌<◌, min, get_or, add-one, arith}
 use Rattle.mars_base.specs.Outside.{Puts}
 use Rattle.std.specs.Io.KnownBytes.{append_known}
 use Rattle.std.proofs.lemmas.List.{append_assoc, append-nil, take_min, take-append-le, drop_all}

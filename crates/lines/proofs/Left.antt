@@ -1,5 +1,5 @@
 -- What the first line of what is left says of the lines that are left.
-use Rattle.std.proofs.Common.{◌≡◌, ◌⊎◌, inl, inr, ℕ, suc, append_assoc, take-append-drop, drop-cons, ◌+◌, ◌<◌, ◌≤◌, Bool, true, false, cond, List, [], ◌∷◌, ◌++◌, length, take, drop, get_or, Option, Some, None, IfSome, ℤ, refl, sym, ap, ◌∙◌, subst, arith, add-one, leb, eqb}
+use Rattle.std.proofs.Common.{◌≡◌, ◌⊎◌, inl, inr, ℕ, suc, append_assoc, take-append-drop, drop-cons, ◌+◌, ◌<◌, ◌≤◌, Bool, true, false, cond, List, [], ◌∷◌, ◌++◌, length, take, drop, get_or, Option, Some, None, IfSome, ℤ, refl, sym, ap, ◌∙◌, subst, arith, add-one, leb}
 use Rattle.std.specs.Option.{option_map}
 use Rattle.std.proofs.lemmas.List.{append-nil, drop_all, length-take}
 use Rattle.std.specs.Io.KnownBytes.{prepend_known, IsAtEnd}
@@ -169,7 +169,7 @@ pub fed_reads : (place : ℕ) (was kept rest : List ℕ) (old left : Option (Lis
 fed_reads place was kept rest old None same lt here used = sym same
 fed_reads place was kept rest old (Some more) same lt here used = sym same
     ∙ ap Some (ap (λ (t : List ℕ). t ++ more) (sym (fed_bytes place kept lt here)) ∙ append_assoc (take place kept ++ 10 ∷ []) (drop (place + 1) kept) more
-      ∙ ap (λ (t : List ℕ). (take place kept ++ 10 ∷ []) ++ (t ++ more)) (sym used))
+    ∙ ap (λ (t : List ℕ). (take place kept ++ 10 ∷ []) ++ (t ++ more)) (sym used))
 
 -- and of the line that the end of the text ends
 pub unfed_reads : (was kept rest : List ℕ) (old left : Option (List ℕ)) → prepend_known kept left ≡ prepend_known was old → rest ≡ drop (length kept) kept

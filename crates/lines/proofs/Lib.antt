@@ -1,4 +1,5 @@
 pub mod Feeds
+pub mod Fits
 pub mod Gather
 pub mod Left
 pub mod Parts

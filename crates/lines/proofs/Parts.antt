@@ -42,7 +42,7 @@ no_minus : (b : ℕ) (bs : List ℕ) → b ≢ 45 → is_blank b ≡ false → w
 no_minus b bs other h =
     begins b bs h
     ∙ ap (λ (t : Bool). cond t (negative_word (first_part bs)) (unsigned_word (b ∷ first_part bs)) >>= onto_words (words_in (parts (after_part bs))))
-      (false_from_ne_true (eqb b 45) (λ t. other (eqb-true b 45 t)))
+    (false_from_ne_true (eqb b 45) (λ t. other (eqb-true b 45 t)))
     ∙ ap (λ (t : Bool). unsigned_word (cond t [] (b ∷ first_part bs)) >>= onto_words (words_in (parts (cond t bs (after_part bs))))) (sym h)
 
 read_by : (text digits : List ℕ) (reading : List ℕ → Option ℤ) (r : Option (ℤ × Bor (List ℕ)))
@@ -58,7 +58,7 @@ pub read_negative : (text digits : List ℕ) (r : Option (ℤ × Bor (List ℕ))
 read_negative text digits r some is e says =
     read_by text digits negative_word r
     (ap (λ (t : List ℕ). words_in (parts t)) (split_first text some) ∙ by_minus (get_or text 0 0) (drop 1 text) is
-      ∙ ap (λ (d : List ℕ). negative_word (first_part d) >>= onto_words (words_in (parts (after_part d)))) (sym e)) says
+    ∙ ap (λ (d : List ℕ). negative_word (first_part d) >>= onto_words (words_in (parts (after_part d)))) (sym e)) says
 
 -- a text that begins with no minus and no blank
 pub read_unsigned : (text : List ℕ) (r : Option (ℤ × Bor (List ℕ))) → 0 < length text → get_or text 0 0 ≢ 45 → is_blank (get_or text 0 0) ≡ false → BeginsWord unsigned_word text r

@@ -1,8 +1,8 @@
 -- The first line of a text.
 use Rattle.std.proofs.Common.{◌≡◌, ℕ, zero, suc, ◌<◌, ◌≤◌, true, false, cond, List, [], ◌∷◌, ◌++◌, length, take, drop, get_or, refl, ap, ◌∙◌, arith, eqb, eq-eqb}
 use Rattle.std.proofs.lemmas.Bool.{false_from_ne_true, eqb-true}
-use Rattle.lines.specs.Lines.{RawLine, lines_in, onto_line}
-use Rattle.lines.specs.Found.{NoFeedBelow}
+use Rattle.lines.specs.Lines.{RawLine, lines_in, onto_line, fed_lines}
+use Rattle.lines.specs.Found.{NoFeedBelow, HoldsFeed}
 
 -- a byte that is a line feed, and one that isn't
 at_feed : (b : ℕ) (bs : List ℕ) → b ≡ 10 → lines_in (b ∷ bs) ≡ (record { bytes = []; feed = true }) ∷ lines_in bs
@@ -54,3 +54,14 @@ begins_long zero (b ∷ bs) rest some le none = absurd (omega arith)
 begins_long (suc zero) (b ∷ bs) rest some le none = only_one b (bs ++ rest) _ (none 0 (omega arith)) refl
 begins_long (suc (suc n)) (b ∷ bs) rest some le none =
     longer (suc n) b (bs ++ rest) (none 0 (omega arith)) (begins_long (suc n) bs rest (omega arith) (omega arith) (below_tail (suc n) b bs none))
+
+-- bytes without a line feed, a line feed and a text
+pub line_then_feed : (bytes more : List ℕ) → NoFeedBelow (length bytes) bytes → lines_in (bytes ++ 10 ∷ more) ≡ (record { bytes = bytes; feed = true }) ∷ lines_in more
+line_then_feed [] more none = at_feed 10 more refl
+line_then_feed (b ∷ bs) more none =
+    at_other b (bs ++ 10 ∷ more) (none 0 (omega arith)) ∙ ap (onto_line b) (line_then_feed bs more (below_tail (length bs) b bs none))
+
+-- no line feed ends a line of bytes without one
+pub no_line_fed : (bytes : List ℕ) → (HoldsFeed bytes → ⊥) → fed_lines (lines_in bytes) ≡ []
+no_line_fed [] none = refl
+no_line_fed (b ∷ bs) none = ap fed_lines (line_at_end (b ∷ bs) (omega arith) (λ k lt here. none (k, lt, here)))

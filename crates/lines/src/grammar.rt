@@ -52,7 +52,11 @@ fn first_word(text: &[u8]) -> Option<(i32, &[u8])>
         (λ r. words_in (parts text.now) ≡ onto_words (words_in (parts r.1.now)) r.0) }
     ensures less { IfSome result (λ r. length r.1.now < length text.now) }
 {
-    if text[0] == b'-' { negative_word(&text[1..]) } else { unsigned_word(text) }
+    if text[0] == b'-' {
+        negative_word(&text[1..])
+    } else {
+        unsigned_word(text)
+    }
 }
 
 // The word of the digits before the first blank, behind a minus.

@@ -1,5 +1,6 @@
 //! The lines of an input.
-ghost use Rattle.std.specs.Prelude.{◌≡◌, ◌≤◌, ◌+◌, ℕ, Ok, Err, Some, None, IfOk, IsErr, OnErr, IfSome, IfNone, IsTrue, ◌↔◌, ◌⊎◌, ◌<◌, true, false, [], length, take};
+ghost use Rattle.std.specs.Prelude.{◌≡◌, ◌≤◌, ◌+◌, ℕ, Ok, Err, Some, None, IfOk, IsErr, OnErr, IfSome, IfNone, IsTrue, ◌↔◌, ◌⊎◌, ◌<◌, true, false, [], length, take, All, FitsSigned};
+ghost use Rattle.std.specs.Int.{w32};
 ghost use Rattle.std.specs.Option.{option_map, ForSome, ForNone};
 ghost use Rattle.std.specs.Io.KnownBytes.{prepend_known, IsAtEnd};
 ghost use Rattle.mars_base.specs.Causes.{HasCause, Rose};
@@ -108,10 +109,11 @@ impl LineReader {
         ensures alone { HoldsFeed (kept_of self.old) → source.new ≡ source.old }
         ensures line { result ≡ Ok Next.Line → lines_left self.old (I.left source.old) (length into.old) ≡ option_map (Line into.new) (lines_left self.new (I.left source.new) (length into.old)) }
         ensures counted { result ≡ Ok Next.Line → (count_of self.new ≡ count_of self.old + 1) × (count_of self.old < 1000000) }
+        ensures fits { result ≡ Ok Next.Line → All (FitsSigned w32) into.new }
         ensures reads { result ≡ Ok Next.Line → ReadsLine self.old self.new (I.left source.old) (I.left source.new) (length into.old) into.new }
         ensures end { result ≡ Ok Next.End → IfSome (lines_left self.old (I.left source.old) (length into.old)) (λ lines. lines ≡ End) }
         ensures over { is_over self.new ≡ true → IsAtEnd (I.left source.new) }
-        ensures at_end { result ≡ Ok Next.End → is_over self.new ≡ true }
+        ensures at_end { result ≡ Ok Next.End → IsAtEnd (I.left source.new) }
         ensures bad { (n : ℕ) → result ≡ Err (LineFault.Bad n) → IfSome (lines_left self.old (I.left source.old) (length into.old)) (λ lines. lines ≡ Bad n) }
         ensures read { result ≡ Err LineFault.Read → Rose (I.faults source.old) (I.faults source.new) }
         ensures still { result ≡ Err LineFault.Read → StillHolds self.old self.new (I.left source.old) (I.left source.new) }
@@ -151,6 +153,7 @@ impl LineReader {
         ensures front { take (length (kept_of self.old)) (kept_of self.new) ≡ kept_of self.old }
         ensures found { IfOk result (λ found. Finds (kept_of self.new) (I.left source.new) found) }
         ensures alone { HoldsFeed (kept_of self.old) → source.new ≡ source.old }
+        ensures before { IsErr result → HoldsFeed (kept_of self.old) → ⊥ }
         ensures single { IsErr result → HoldsFeed (kept_of self.new) → ⊥ }
         ensures count { count_of self.new ≡ count_of self.old }
         ensures going { is_over self.new ≡ false }
@@ -255,12 +258,20 @@ fn next_feed(kept: &[u8], searched: usize) -> Option<usize>
 fn feed_at(place: usize) -> Found
     ensures { FindsFeed place result }
 {
-    if place <= LONGEST { Found::Feed(place) } else { Found::Long }
+    if place <= LONGEST {
+        Found::Feed(place)
+    } else {
+        Found::Long
+    }
 }
 
 // What bytes without a line feed mean, where more than a line has came or the input ended.
 fn without_feed(kept: &[u8]) -> Found
     ensures { WithoutFeed (length kept.now) result }
 {
-    if kept.len() <= LONGEST { Found::Rest } else { Found::Long }
+    if kept.len() <= LONGEST {
+        Found::Rest
+    } else {
+        Found::Long
+    }
 }

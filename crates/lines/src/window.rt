@@ -62,7 +62,11 @@ impl Window {
 
     /// Takes more bytes from the source and answers how many; 0 exactly where none is left. No text
     /// waits unsent when it is asked.
-    pub fn fill<I: Source>(&mut self, source: &mut I, unsent: &LineBuf) -> Result<usize, SourceFault>
+    pub fn fill<I: Source>(
+        &mut self,
+        source: &mut I,
+        unsent: &LineBuf,
+    ) -> Result<usize, SourceFault>
         requires short { length self.old ≤ 65536 }
         requires sent { unsent.now ≡ [] }
         ensures bytes { prepend_known self.new (I.left source.new) ≡ prepend_known self.old (I.left source.old) }

@@ -1,12 +1,11 @@
 -- What two writes in a row come to at the end of a run.
-use Rattle.std.proofs.Common.{◌≡◌, ◌⊎◌, inl, inr, ℕ, ◌≤◌, List, [], ◌∷◌, ◌++◌, Option, Some, None, Result, Ok, Err, refl, sym, ap, ◌∙◌, subst, arith}
-use Rattle.std.specs.Io.KnownBytes.{append_known}
+use Rattle.std.proofs.Common.{◌≡◌, inl, inr, ℕ, List, [], ◌++◌, Option, Result, Ok, Err, refl, subst}
 use Rattle.std.proofs.lemmas.List.{append-nil}
-use Rattle.mars_base.specs.Causes.{Rose, HasCause}
+use Rattle.mars_base.specs.Causes.{Rose}
 use Rattle.mars_base.specs.declared.outside.SinkFault.{SinkFault}
 use Rattle.lines.specs.Gathered.{Gathered, HasFront, Writes}
-use Rattle.lines.proofs.Gather.{all_gathered, front_of_front}
-use Rattle.task_run.specs.Closing.{Closed, Failed, Closes}
+use Rattle.lines.proofs.Gather.{all_gathered}
+use Rattle.task_run.specs.Closing.{Closes}
 use Rattle.task_run.specs.declared.fault.RunFault.{RunFault}
 use Rattle.task_run.specs.declared.fault.RunFault.TheVariants as fault
 

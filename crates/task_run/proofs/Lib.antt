@@ -1,2 +1,4 @@
+pub mod Answered
 pub mod Closes
+pub mod Fitting
 pub mod Steps

@@ -1,5 +1,5 @@
 -- A run over lines that is under way.
-use Rattle.std.proofs.Common.{◌≡◌, ◌⊎◌, inl, inr, ℕ, ◌+◌, ◌≤◌, max, List, [], ◌∷◌, ◌++◌, Option, Some, None, IfSome, Result, Ok, Err, ℤ, refl, sym, ap, ◌∙◌, subst}
+use Rattle.std.proofs.Common.{◌≡◌, inl, inr, ℕ, ◌+◌, max, List, [], ◌++◌, Option, Some, None, IfSome, Result, Ok, Err, ℤ, refl, sym, ap, ◌∙◌, subst}
 use Rattle.std.specs.Option.{option_map}
 use Rattle.std.specs.Io.KnownBytes.{append_known, prepend_known}
 use Rattle.std.proofs.KnownBytes.{prepend_known-nil}
@@ -13,7 +13,7 @@ use Rattle.mc_tree.specs.Tree.{Tree}
 use Rattle.processor.specs.Ends.{cycles_in}
 use Rattle.processor.specs.Results.{Ran}
 use Rattle.task_run.specs.Closing.{Closed, Failed, Closes}
-use Rattle.task_run.specs.Progress.{RunAnswers, RanTo, RanInto}
+use Rattle.task_run.specs.Progress.{RunAnswers, RanInto}
 use Rattle.task_run.specs.Text.{Ending, Finished, BadLine, Broken, task_text, text_from, ending_of, ending_from, ends_after, after, out_line, broken_line, task_line, first_state}
 use Rattle.task_run.specs.declared.fault.RunFault.{RunFault}
 use Rattle.task_run.specs.declared.fault.RunFault.TheVariants as fault

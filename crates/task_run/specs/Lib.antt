@@ -1,4 +1,3 @@
 pub mod Closing
-pub mod Follows
 pub mod Progress
 pub mod Text

@@ -50,6 +50,15 @@ text_from t maxt run line seen state (Line ins rest) = after (instance_of t stat
 abbrev pub task_text : Tree → ℕ → (List ℤ → List ℤ → Ran) → Lines → List ℕ
 task_text t maxt run lines = text_from t maxt run 0 0 (first_state t) lines
 
+-- the text of the instances alone, without the last line
+abbrev pub answers_from : Tree → (line : ℕ) → List ℤ → Lines → List ℕ
+answers_from t line state End = []
+answers_from t line state (Bad n) = []
+answers_from t line state (Line ins rest) = after (instance_of t state ins) (λ new outs. out_line outs ++ answers_from t (line + 1) new rest) (broken_line line t.name)
+
+abbrev pub answers_text : Tree → Lines → List ℕ
+answers_text t lines = answers_from t 0 (first_state t) lines
+
 -- how a run ends: at the end of the lines, at a bad line, or at a broken instance
 pub data Ending : Type 0 where
   Finished : Ending

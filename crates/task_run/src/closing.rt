@@ -1,6 +1,8 @@
 //! The end of a run.
-ghost use Rattle.std.specs.Prelude.{◌≡◌, ◌≤◌, [], Ok, Err};
+ghost use Rattle.std.specs.Prelude.{◌≡◌, ◌≤◌, ◌⊎◌, [], Ok, Err, OnOk};
+ghost use Rattle.lines.specs.Found.{HoldsFeed};
 ghost use Rattle.lines.specs.Gathered.{Writes};
+ghost use Rattle.lines.specs.Reader.{kept_of};
 ghost use Rattle.mars_base.specs.Causes.{HasCause};
 ghost use Rattle.task_run.specs.Closing.{Closes};
 ghost use Rattle.task_run.specs.Text.{broken_line, task_line};
@@ -67,6 +69,7 @@ pub fn send_before_reading<O: Sink>(
     out: &mut O,
 ) -> Result<(), SinkFault>
     ensures bytes { Writes (O.holds out.old) buffer.old [] (O.holds out.new) buffer.new result }
+    ensures sent { OnOk result (HoldsFeed (kept_of reader.now) ⊎ (buffer.new ≡ [])) }
     ensures cause { HasCause (O.faults out.old) (O.faults out.new) result }
 {
     if reader.holds_line() {

@@ -2,8 +2,9 @@
 ghost use Rattle.std.specs.Prelude.{◌≡◌, ◌<◌, ◌≤◌, ◌^◌, length, MatchOption};
 ghost use Rattle.mc_tree.specs.Instance.{Gives, Breaks, is_in, is_out, is_state, width_of, instance_of};
 ghost use Rattle.mc_tree.specs.Plain.{plain_task};
-ghost use Rattle.task_run.specs.Follows.{RunsAs};
+ghost use Rattle.mc_compile.specs.Follows.{RunsAs};
 ghost use Rattle.processor.specs.Ends.{cycles_in};
+ghost use Rattle.processor.specs.Results.{AreWords};
 
 use mc_tree::Task;
 use processor::{Cpu, Turn};
@@ -27,7 +28,10 @@ pub fn execute<C: Cpu>(
     requires state { length state.old ≡ width_of is_state (plain_task task.now).cells }
     requires ins { length ins.now ≡ width_of is_in (plain_task task.now).cells }
     requires outs { length outs.old ≡ width_of is_out (plain_task task.now).cells }
-    ensures { MatchOption result
+    requires state_fits { AreWords state.old }
+    requires ins_fit { AreWords ins.now }
+    ensures state_fits { AreWords state.new }
+    ensures does { MatchOption result
         ((instance_of (plain_task task.now) state.old ins.now ≡ Breaks) × (state.new ≡ state.old))
         (λ cycles. (instance_of (plain_task task.now) state.old ins.now ≡ Gives state.new outs.new)
         × (cycles ≡ cycles_in (C.execution program.now maxt state.old ins.now))) }

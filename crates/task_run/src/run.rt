@@ -1,14 +1,14 @@
 //! A task's run over the lines of an input.
-ghost use Rattle.std.specs.Prelude.{◌≡◌, ◌<◌, ◌≤◌, ◌^◌, [], length, Ok, Err};
+ghost use Rattle.std.specs.Prelude.{◌≡◌, ◌<◌, ◌≤◌, ◌^◌, [], length, Ok, Err, false};
 ghost use Rattle.mars_base.specs.Causes.{Rose};
 ghost use Rattle.mc_tree.specs.Instance.{is_in, is_out, is_state, width_of};
 ghost use Rattle.mc_tree.specs.Plain.{plain_task};
 ghost use Rattle.std.specs.Io.KnownBytes.{IsAtEnd};
 ghost use Rattle.std.specs.Option.{option_map};
-ghost use Rattle.task_run.specs.Follows.{RunsAs};
-ghost use Rattle.task_run.specs.Progress.{RunAnswers};
+ghost use Rattle.mc_compile.specs.Follows.{RunsAs};
+ghost use Rattle.task_run.specs.Progress.{HasAnswered, RunAnswers};
 ghost use Rattle.lines.specs.Lines.{lines_of};
-ghost use Rattle.lines.specs.Reader.{kept_of, count_of};
+ghost use Rattle.lines.specs.Reader.{kept_of, count_of, is_over};
 ghost use Rattle.task_run.specs.Text.{first_state};
 
 use crate::closing::{finish, send_before_reading, stop_bad, stop_broken};
@@ -19,12 +19,12 @@ use crate::width::{in_words, out_words, state_words, zeros};
 use lines::{LineBuf, LineFault, LineReader, Next};
 use mars_base::{Sink, Source};
 use mc_tree::Task;
-use std::alloc::Global;
 use processor::Cpu;
+use std::alloc::Global;
 
 /// Runs a task over the lines of an input, one at a time, and writes its text. `maxt` is the bound that
 /// each execution keeps and that the last line prints. Each answer goes out before more input is asked
-/// for. Memory is taken before the first line alone.
+/// for, so where a read fails, all lines that were taken whole have their answers. Memory is taken before the first line alone.
 pub fn run_lines<C: Cpu, I: Source, O: Sink>(
     alloc: Global,
     cpu: &mut C,
@@ -44,6 +44,7 @@ pub fn run_lines<C: Cpu, I: Source, O: Sink>(
     ensures answer { RunAnswers (plain_task task.now) maxt (C.execution program.now maxt)
         (option_map (lines_of (width_of is_in (plain_task task.now).cells)) (I.left input.old)) (O.holds out.old) (O.holds out.new) result }
     ensures at_end { result ≡ Ok tt → IsAtEnd (I.left input.new) }
+    ensures answered { result ≡ Err RunFault.Read → HasAnswered (plain_task task.now) (width_of is_in (plain_task task.now).cells) (I.left input.old) (I.left input.new) (O.holds out.old) (O.holds out.new) }
     ensures read { result ≡ Err RunFault.Read → Rose (I.faults input.old) (I.faults input.new) }
     ensures write { result ≡ Err RunFault.Write → Rose (O.faults out.old) (O.faults out.new) }
     ensures later_in { I.faults input.old ≤ I.faults input.new }
@@ -106,10 +107,12 @@ fn run_each<C: Cpu, I: Source, O: Sink>(
     requires state { state.old ≡ first_state (plain_task task.now) }
     requires kept { kept_of reader.old ≡ [] }
     requires count { count_of reader.old ≡ 0 }
+    requires over { is_over reader.old ≡ false }
     requires waiting { buffer.old ≡ [] }
     ensures answer { RunAnswers (plain_task task.now) maxt (C.execution program.now maxt)
         (option_map (lines_of (width_of is_in (plain_task task.now).cells)) (I.left input.old)) (O.holds out.old) (O.holds out.new) result }
     ensures at_end { result ≡ Ok tt → IsAtEnd (I.left input.new) }
+    ensures answered { result ≡ Err RunFault.Read → HasAnswered (plain_task task.now) (width_of is_in (plain_task task.now).cells) (I.left input.old) (I.left input.new) (O.holds out.old) (O.holds out.new) }
     ensures read { result ≡ Err RunFault.Read → Rose (I.faults input.old) (I.faults input.new) }
     ensures write { result ≡ Err RunFault.Write → Rose (O.faults out.old) (O.faults out.new) }
     ensures later_in { I.faults input.old ≤ I.faults input.new }
@@ -122,7 +125,7 @@ fn run_each<C: Cpu, I: Source, O: Sink>(
         if let Err(_fault) = send_before_reading(reader, buffer, out) {
             return Err(RunFault::Write);
         }
-        match reader.next(input, ins) {
+        match reader.next(input, buffer, ins) {
             Ok(Next::Line) => {}
             Ok(Next::End) => return finish(buffer, out, name, maxt, seen),
             Err(LineFault::Bad(number)) => return stop_bad(buffer, out, number),

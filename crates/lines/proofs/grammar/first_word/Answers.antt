@@ -1,7 +1,4 @@
-use Rattle.std.proofs.Common.{sym, ap, ◌∙◌, eqb, subst, List, ℕ}
 use Rattle.std.proofs.lemmas.List.{take_rest}
-use Rattle.lines.specs.Grammar.{negative_word}
-use Rattle.lines.specs.Parts.{BeginsWord}
 use Rattle.lines.proofs.Parts.{read_negative, read_unsigned}
 use Rattle.lines.proofs.grammar.first_word.Goals as goal
 

@@ -1,4 +1,4 @@
-use Rattle.std.proofs.Common.{◌≡◌, ◌≤◌, ◌+◌, ◌-◌, length, take, []}
+use Rattle.std.proofs.Common.{◌≡◌, ◌≤◌, ◌+◌, ◌-◌, length, take}
 use Rattle.std.specs.Io.KnownBytes.{prepend_known}
 use Rattle.lines.specs.Found.{NoFeedBelow}
 use Rattle.lines.proofs.reader.fill_to_feed.Given as goal

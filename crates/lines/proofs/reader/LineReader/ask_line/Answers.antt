@@ -1,4 +1,3 @@
-use Rattle.std.proofs.Common.{Some, None}
 use Rattle.lines.proofs.Feeds.{feed_none, feed_some}
 use Rattle.lines.proofs.reader.LineReader.ask_line.Goals as goal
 

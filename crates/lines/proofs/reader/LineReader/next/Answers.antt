@@ -4,6 +4,7 @@ use Rattle.lines.specs.Grammar.{words_of}
 use Rattle.lines.specs.Lines.{without_return}
 use Rattle.lines.proofs.Left.{some_kept, fed_next, unfed_next, fed_refused, unfed_refused, long_refused, fed, unfed, fed_words, unfed_words, fed_reads, unfed_reads}
 use Rattle.lines.proofs.Feeds.{single_fed}
+use Rattle.lines.proofs.Fits.{words_fit}
 use Rattle.lines.proofs.reader.LineReader.next.Goals as goal
 
 pub returns-in-Long-clause-bad : goal.returns-in-Long-clause-bad
@@ -66,11 +67,12 @@ returns-in-Feed-clause-reads g c is =
     let found = subst (Finds kept left) c.in-Feed.is ok.found in
     let p = c.pass.ensures.line is in
     record {
+      began = c.if-self.false;
       line = fed kept c.in-Feed.place;
       bytes = fed_reads c.in-Feed.place c.args.self.now.window kept c.pass.new.self.window (g.I.Source.left c.args.source.now) left ok.bytes found.0.within found.0.here p.used;
       single = single_fed c.in-Feed.place kept found.0.before;
       read = fed_words (length c.args.into.now) c.in-Feed.place kept _ found.1
-      (ap (words_of (length c.args.into.now)) (sym (c.cut_return.ensures ∙ ap (λ t. without_return (take c.in-Feed.place t)) c.bytes.ensures)) ∙ c.read_words-is_line.ensures.words p.well_formed);
+          (ap (words_of (length c.args.into.now)) (sym (c.cut_return.ensures ∙ ap (λ t. without_return (take c.in-Feed.place t)) c.bytes.ensures)) ∙ c.read_words-is_line.ensures.words p.well_formed);
       more = λ _. c.pass.ensures.over is;
       last = λ none. absurd (cc (none));
     }
@@ -84,6 +86,7 @@ returns-else-taken-eq0-clause-reads g c is =
     let p = c.pass-in-Rest.ensures.line is in
     let same = c.bytes-kept.ensures in
     record {
+      began = c.if-self.false;
       line = unfed kept;
       bytes = unfed_reads c.args.self.now.window kept c.pass-in-Rest.new.self.window (g.I.Source.left c.args.source.now) left ok.bytes (p.used ∙ ap (λ t. drop (length t) kept) same);
       single = found.0;
@@ -91,3 +94,9 @@ returns-else-taken-eq0-clause-reads g c is =
       more = λ fed. absurd (cc (fed));
       last = λ _. c.pass-in-Rest.ensures.over is;
     }
+
+pub returns-in-Feed-clause-fits : goal.returns-in-Feed-clause-fits
+returns-in-Feed-clause-fits g c is = words_fit (length c.args.into.now) c.cut_return.result.now c.read_words-is_line.new.into (c.read_words-is_line.ensures.words (c.pass.ensures.line is).well_formed)
+
+pub returns-else-taken-eq0-clause-fits : goal.returns-else-taken-eq0-clause-fits
+returns-else-taken-eq0-clause-fits g c is = words_fit (length c.args.into.now) c.bytes-kept.result.now c.read_words-is_line-in-Rest.new.into (c.read_words-is_line-in-Rest.ensures.words (c.pass-in-Rest.ensures.line is).well_formed)
