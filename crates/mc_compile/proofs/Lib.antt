@@ -1,4 +1,6 @@
 pub mod Costs
+pub mod Grow
+pub mod Mended
 pub mod Heights
 pub mod Lengths
 pub mod Placed

@@ -11,6 +11,13 @@ ghost use Rattle.mc_tree.specs.Tree.{Ex, Tree};
 ghost use Rattle.std.specs.Prelude.{◌≡◌, ◌≤◌, ℕ, length};
 ghost use Rattle.word_code.specs.Typing.{IsVerified};
 
+mod expression;
+mod fault;
+mod measure;
+mod statement;
+
+pub use fault::CompileFault;
+
 /// What holds of the translation of every task. Its parts stand one after another, and each jump goes to where
 /// its part begins or ends. Its length is known beforehand. From each state and each in words the code of a
 /// checked task halts with the state and the outs that the task's instance gives, or breaks where the instance
