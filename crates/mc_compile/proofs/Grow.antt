@@ -1,6 +1,6 @@
 -- Code that grows, one part behind another.
 use Rattle.std.proofs.Common.{◌≡◌, ℕ, zero, suc, Some, None, ◌+◌, ◌<◌, ◌≤◌, List, [], ◌∷◌, ◌++◌, length, map, drop, get_or, refl, sym, ap, ◌∙◌, subst, arith, append_assoc, append-nil, add-one}
-use Rattle.std.specs.Prelude.{Vec, vec_len, vec_capacity, slice_get}
+use Rattle.std.specs.Prelude.{Vec, slice_get}
 use Rattle.std.proofs.lemmas.List.{length-map}
 use Rattle.std.specs.Global.{Global}
 use Rattle.std.proofs.Math.Seq.{drop-cons}
@@ -16,11 +16,11 @@ use Rattle.mc_tree.specs.Plain.{place_in, width_in, loop_before, plain_expr, pla
 use Rattle.mc_tree.specs.Tree.{Ex, Bin, Un, Elem, St, Assign, AssignAt, Invoke, When, Choice, Loop, Scoped, Count, Series, Bl, Then, Ls, NoLoop, OneLoop}
 use Rattle.mc_tree.proofs.Plain.{plain_at, plain_unary, plain_binary}
 use Rattle.mars_base.specs.declared.word.BinOp.{BinOp}
-use Rattle.word_machine.specs.declared.code.Instr.{Instr}
-use Rattle.word_machine.specs.declared.code.Instr.TheVariants.{Store, LoadX, Jmp, Jz, CZero, CInc}
-use Rattle.word_machine.specs.declared.code.Slot.{Slot}
+use Rattle.word_code.specs.declared.code.Instr.{Instr}
+use Rattle.word_code.specs.declared.code.Instr.TheVariants.{LoadX, Jmp, Jz, CZero, CInc}
+use Rattle.word_code.specs.declared.code.Slot.{Slot}
 use Rattle.mc_compile.specs.Emit.{Grows, params_of, IsLowL}
-use Rattle.mc_compile.specs.Translate.{slot, unary_instr, between, joined, ex_len, ex_code, args_len, args_code, stores_code, bl_len, ls_len, bl_code, ls_code}
+use Rattle.mc_compile.specs.Translate.{slot, unary_instr, between, joined, ex_len, ex_code, bl_len, ls_len, bl_code, ls_code}
 
 -- nothing more
 pub grows_none : (code : Vec Slot Global) → Grows code code [] 0

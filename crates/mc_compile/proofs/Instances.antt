@@ -30,13 +30,13 @@ use Rattle.mc_compile.proofs.Statements.{AreGood, Follows, runs_b}
 use Rattle.mc_compile.proofs.TypedTask.{fn_at, params_is}
 
 -- the machine's tests of a role are the task's
-same_state : (r : Role) → is_state r ≡ cells.is_state r
+pub same_state : (r : Role) → is_state r ≡ cells.is_state r
 same_state role.In = refl
 same_state role.Out = refl
 same_state role.State = refl
 same_state role.Local = refl
 
-same_out : (r : Role) → is_out r ≡ cells.is_out r
+pub same_out : (r : Role) → is_out r ≡ cells.is_out r
 same_out role.In = refl
 same_out role.Out = refl
 same_out role.State = refl

@@ -1,6 +1,8 @@
 pub mod Costs
 pub mod Grow
 pub mod Mended
+pub mod Sizes
+pub mod Tasks
 pub mod Heights
 pub mod Lengths
 pub mod Placed

@@ -34,15 +34,17 @@ outside role.State ne = refl
 outside role.Local ne = absurd (ne refl)
 
 -- the shape of a global is kept, and that of a local is not
-shapes_cons : (c : Cell) (cells : List Cell) → c.role ≢ role.Local → shapes_of (c ∷ cells) ≡ shape_of c ∷ shapes_of cells
+pub shapes_cons : (c : Cell) (cells : List Cell) → c.role ≢ role.Local → shapes_of (c ∷ cells) ≡ shape_of c ∷ shapes_of cells
 shapes_cons c cells ne = ap (λ b. map shape_of (cond b (c ∷ filter (λ c. is_outside c.role) cells) (filter (λ c. is_outside c.role) cells))) (outside c.role ne)
+
+pub shapes_drop : (c : Cell) (cells : List Cell) → c.role ≡ role.Local → shapes_of (c ∷ cells) ≡ shapes_of cells
+shapes_drop c cells e = ap (λ r. map shape_of (cond (is_outside r) (c ∷ filter (λ c. is_outside c.role) cells) (filter (λ c. is_outside c.role) cells))) e
 
 -- locals have no shape
 shapes_local : (cells : List Cell) → AreLocal cells → shapes_of cells ≡ []
 shapes_local [] h = refl
 shapes_local (c ∷ cells) h =
-    ap (λ r. map shape_of (cond (is_outside r) (c ∷ filter (λ c. is_outside c.role) cells) (filter (λ c. is_outside c.role) cells))) (h 0 c (omega arith))
-    ∙ shapes_local cells (local_rest c cells h)
+    shapes_drop c cells (h 0 c (omega arith)) ∙ shapes_local cells (local_rest c cells h)
 
 -- words at the start
 start_local : (cells : List Cell) → AreLocal cells → (state ins : List ℤ) → words_at_start cells state ins ≡ replicate (words_in cells) (pos 0)

@@ -1,11 +1,11 @@
 -- Statements as code grows by them: a jump forward is put first, and mended once its target is reached.
-use Rattle.std.proofs.Common.{◌≡◌, ℕ, suc, ◌+◌, ◌<◌, ◌≤◌, List, [], ◌∷◌, ◌++◌, length, refl, sym, ap, ◌∙◌, subst, arith, append_assoc, length-append}
-use Rattle.std.specs.Prelude.{Vec, vec_len, vec_capacity, slice_set}
+use Rattle.std.proofs.Common.{◌≡◌, ℕ, ◌+◌, List, [], ◌∷◌, ◌++◌, length, refl, sym, ap, ◌∙◌, arith, append_assoc, length-append}
+use Rattle.std.specs.Prelude.{Vec, vec_len, slice_set}
 use Rattle.std.specs.Global.{Global}
 use Rattle.std.proofs.Math.Seq.{set-append_seam}
 use Rattle.mc_tree.specs.Tree.{Ex, St, Assign, AssignAt, Invoke, When, Choice, Loop, Scoped, Series, Bl, Ls, NoLoop, OneLoop}
-use Rattle.word_machine.specs.declared.code.Instr.TheVariants.{Store, StoreX, Jmp, Jz, CZero, CInc, Call}
-use Rattle.word_machine.specs.declared.code.Slot.{Slot}
+use Rattle.word_code.specs.declared.code.Instr.TheVariants.{Store, StoreX, Jmp, Jz, CZero, CInc, Call}
+use Rattle.word_code.specs.declared.code.Slot.{Slot}
 use Rattle.mc_compile.specs.Emit.{Grows, Mends}
 use Rattle.mc_compile.specs.Translate.{slot, ex_len, ex_code, args_len, args_code, stores_code, st_len, bl_len, ls_len, st_code, bl_code, ls_code}
 use Rattle.mc_compile.proofs.Grow.{grows_then, grows_as}
@@ -110,7 +110,7 @@ module _ (starts : ℕ → ℕ) (params : ℕ → List ℕ) where
       let block = grows_as c4 c5 _ A _ _ (ap (λ p. bl_code starts params p b) begins) refl body in
       let there : leave ≡ vec_len c2 + 0 = omega (arith, at2) in
       let more = grows_mended c2 c6 c7 [] (slot (CInc c n) 0 ∷ (A ++ slot (Jmp head) 0 ∷ [])) x (slot (Jz end) 1) _ leave
-                 (grows_then c2 c3 c6 _ _ _ _ jump (grows_then c3 c4 c6 _ _ _ _ count (grows_then c4 c5 c6 _ _ _ _ block back))) there mended in
+      (grows_then c2 c3 c6 _ _ _ _ jump (grows_then c3 c4 c6 _ _ _ _ count (grows_then c4 c5 c6 _ _ _ _ block back))) there mended in
       let size : 1 + (ex_len t + (1 + (1 + (bl_len params b + 1)))) ≡ st_len params s = omega (arith, ap (st_len params) is) in
       grows_as c0 c7 _ _ _ _ (ap (λ e. slot (CZero c) 0 ∷ (ex_code 0 t ++ slot (Jz e) 1 ∷ slot (CInc c n) 0 ∷ (A ++ slot (Jmp head) 0 ∷ []))) ends ∙ ap (λ h. slot (CZero c) 0 ∷ (ex_code 0 t ++ slot (Jz (first + bl_len params b + 1)) 1 ∷ slot (CInc c n) 0 ∷ (A ++ slot (Jmp h) 0 ∷ []))) heads ∙ ap (st_code starts params (vec_len c0)) (sym is)) size
       (grows_then c0 c1 c7 _ _ _ _ zero (grows_then c1 c2 c7 _ _ _ _ test more))
@@ -131,7 +131,7 @@ module _ (starts : ℕ → ℕ) (params : ℕ → List ℕ) where
       let block = grows_as c5 c6 _ A _ _ (ap (λ p. bl_code starts params p b) begins) refl body in
       let there : leave ≡ vec_len c2 + 0 = omega (arith, at2) in
       let more = grows_mended c2 c7 c8 [] (slot (CInc c n) 0 ∷ slot (CInc u k) 0 ∷ (A ++ slot (Jmp head) 0 ∷ [])) x (slot (Jz end) 1) _ leave
-                 (grows_then c2 c3 c7 _ _ _ _ jump (grows_then c3 c4 c7 _ _ _ _ count (grows_then c4 c5 c7 _ _ _ _ count2 (grows_then c5 c6 c7 _ _ _ _ block back)))) there mended in
+      (grows_then c2 c3 c7 _ _ _ _ jump (grows_then c3 c4 c7 _ _ _ _ count (grows_then c4 c5 c7 _ _ _ _ count2 (grows_then c5 c6 c7 _ _ _ _ block back)))) there mended in
       let size : 1 + (ex_len t + (1 + (1 + (1 + (bl_len params b + 1))))) ≡ ls_len params l = omega (arith, ap (ls_len params) is) in
       grows_as c0 c8 _ _ _ _ (ap (λ e. slot (CZero c) 0 ∷ (ex_code 0 t ++ slot (Jz e) 1 ∷ slot (CInc c n) 0 ∷ slot (CInc u k) 0 ∷ (A ++ slot (Jmp head) 0 ∷ []))) ends ∙ ap (λ h. slot (CZero c) 0 ∷ (ex_code 0 t ++ slot (Jz (first + bl_len params b + 1)) 1 ∷ slot (CInc c n) 0 ∷ slot (CInc u k) 0 ∷ (A ++ slot (Jmp h) 0 ∷ []))) heads ∙ ap (ls_code starts params u k (vec_len c0)) (sym is)) size
       (grows_then c0 c1 c8 _ _ _ _ zero (grows_then c1 c2 c8 _ _ _ _ test more))

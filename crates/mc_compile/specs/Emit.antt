@@ -1,14 +1,15 @@
 -- What the emitting of code keeps, one part behind another. This project's own.
-use Rattle.std.specs.Prelude.{◌≡◌, ℕ, ◌+◌, ◌≤◌, max, List, ◌++◌, length, map, Vec, vec_len, vec_capacity, slice_index, slice_set}
+use Rattle.std.specs.Prelude.{◌≡◌, ℕ, ◌+◌, ◌≤◌, max, List, ◌∷◌, ◌++◌, length, map, Vec, vec_len, vec_capacity, slice_index, slice_set}
 use Rattle.std.specs.Global.{Global}
 use Rattle.mc_tree.specs.Height.{height, args_height}
 use Rattle.mc_tree.specs.Meaning.{params_at}
-use Rattle.mc_tree.specs.Plain.{plain_func}
-use Rattle.mc_tree.specs.Tree.{Ex, St, Assign, AssignAt, Invoke, When, Choice, Loop, Scoped, Count, Series, Bl, Nil, Then, Ls, NoLoop, OneLoop, Fn}
+use Rattle.mc_tree.specs.Plain.{plain_list, plain_func}
+use Rattle.mc_tree.specs.Tree.{St, Assign, AssignAt, Invoke, When, Choice, Loop, Scoped, Count, Series, Bl, Nil, Then, Ls, NoLoop, OneLoop, Fn}
 use Rattle.mc_tree.specs.declared.tree.Task.{Task}
-use Rattle.word_machine.specs.declared.code.Slot.{Slot}
-use Rattle.mc_compile.specs.Translate.{st_len, bl_len, ls_len, st_code, bl_code, ls_code}
-use Rattle.mc_compile.specs.Whole.{fn_len, fn_code}
+use Rattle.word_code.specs.declared.code.Instr.TheVariants.{Halt}
+use Rattle.word_code.specs.declared.code.Slot.{Slot}
+use Rattle.mc_compile.specs.Translate.{slot, st_len, bl_len, ls_len, st_code, bl_code, ls_code}
+use Rattle.mc_compile.specs.Whole.{fn_len, fn_code, fns_len, fns_code, fn_starts}
 
 -- these instructions, so many, now stand behind those that were there, in the same room
 pub record Grows (old new : Vec Slot Global) (more : List Slot) (size : ℕ) : Type 0 where
@@ -72,3 +73,26 @@ abbrev mutual
 -- the same for a function
 abbrev pub IsLowF : (ℕ → List ℕ) → Fn → Type 0
 IsLowF params f = IsLowB params f.body × (height f.answer ≤ 64)
+
+-- the parts of a task, and how many instructions they take
+abbrev pub body_of : Task → Bl
+body_of t = plain_list t.cells t.body
+
+abbrev pub functions_of : Task → List Fn
+functions_of t = map (plain_func t.cells) t.funcs
+
+abbrev pub main_of : Task → ℕ
+main_of t = bl_len (params_of t) (body_of t) + 1
+
+abbrev pub length_of : Task → ℕ
+length_of t = main_of t + fns_len (params_of t) (functions_of t)
+
+-- the first instruction of each function
+abbrev pub firsts_of : Task → List ℕ
+firsts_of t = fn_starts (params_of t) (main_of t) (functions_of t)
+
+-- all instructions, where the functions begin at these
+abbrev pub slots_of : Task → List ℕ → List Slot
+slots_of t firsts =
+    bl_code (slice_index firsts) (params_of t) 0 (body_of t)
+    ++ slot Halt 0 ∷ fns_code (slice_index firsts) (params_of t) (main_of t) (functions_of t)

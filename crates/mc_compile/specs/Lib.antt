@@ -5,3 +5,4 @@ pub mod Emit
 pub mod Follows
 pub mod Translate
 pub mod Whole
+pub mod Widths

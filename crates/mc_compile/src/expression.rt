@@ -7,7 +7,7 @@ ghost use Rattle.mc_tree.specs.Plain.{place_in, width_in, plain_expr, plain_args
 
 use mars_base::{BinOp, UnOp};
 use mc_tree::{Cell, Expr};
-use word_machine::{Instr, Slot};
+use word_code::{Instr, Slot};
 
 /// One more instruction, with the number of operands on the stack before it.
 pub fn put(code: &mut Vec<Slot>, instr: Instr, operands: u8)

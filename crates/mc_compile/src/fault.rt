@@ -1,24 +1,22 @@
 //! Why there is no code of a task.
-use mars_base::Memory;
-use std::alloc::AllocError;
+use mars_base::Memory as NoMemory;
 
 /// Why there is no code of a task.
 #[derive(Clone, Copy, Debug, PartialEq, Eq)]
 pub enum CompileFault {
-    /// The code has so many instructions, and code may have at most 65,535.
+    /// The code would have so many instructions, more than 65,535.
     CodeTooLong(u64),
     /// There is no memory.
     Memory,
 }
 
-impl From<Memory> for CompileFault {
-    fn from(_memory: Memory) -> CompileFault {
-        CompileFault::Memory
-    }
-}
+impl From<NoMemory> for CompileFault {
+    ghost use Rattle.std.specs.Prelude.{◌≡◌};
+    ghost use Rattle.mc_compile.specs.declared.fault.CompileFault.TheVariants.{Memory as OutOfMemory};
 
-impl From<AllocError> for CompileFault {
-    fn from(_error: AllocError) -> CompileFault {
+    ghost from_gives = { λ _ fault. fault ≡ OutOfMemory };
+
+    fn from(_error: NoMemory) -> CompileFault {
         CompileFault::Memory
     }
 }

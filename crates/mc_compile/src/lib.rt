@@ -15,8 +15,10 @@ mod expression;
 mod fault;
 mod measure;
 mod statement;
+mod task;
 
 pub use fault::CompileFault;
+pub use task::compile;
 
 /// What holds of the translation of every task. Its parts stand one after another, and each jump goes to where
 /// its part begins or ends. Its length is known beforehand. From each state and each in words the code of a

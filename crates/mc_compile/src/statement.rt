@@ -9,7 +9,7 @@ ghost use Rattle.mc_tree.specs.Tree.{When, Choice, Loop, Scoped, Series, Invoke,
 
 use crate::expression::{emit_args, emit_expr, emit_stores, place, put, width};
 use mc_tree::{Expr, Func, Stmt, Task};
-use word_machine::{Instr, Slot};
+use word_code::{Instr, Slot};
 
 // The number of the next instruction.
 fn next(code: &Vec<Slot>) -> u16
@@ -35,11 +35,7 @@ fn first_of(firsts: &[u16], func: u8) -> u16
     ensures { result ≡ slice_index firsts.now func }
 {
     let func = usize::from(func);
-    if func < firsts.len() {
-        firsts[func]
-    } else {
-        0
-    }
+    if func < firsts.len() { firsts[func] } else { 0 }
 }
 
 // The stores of a function's parameters.
@@ -232,14 +228,7 @@ fn emit_loops(
 // A statement of a sequence; nothing but loops stands in one.
 #[cycle(emit)]
 #[tactic(auto, using(mc_tree::proofs::Plain::plain_rules, crate::proofs::Grow::grow_rules))]
-fn emit_part(
-    code: &mut Vec<Slot>,
-    task: &Task,
-    firsts: &[u16],
-    total: u8,
-    most: u16,
-    stmt: &Stmt,
-)
+fn emit_part(code: &mut Vec<Slot>, task: &Task, firsts: &[u16], total: u8, most: u16, stmt: &Stmt)
     requires low { IsLowL (params_of task.now) (loop_before (plain_stmt task.now.cells stmt.now) NoLoop) }
     requires room { HasRoom code.old (ls_len (params_of task.now) (loop_before (plain_stmt task.now.cells stmt.now) NoLoop)) }
     ensures { GrowsLs code.old code.new task.now firsts.now total most (loop_before (plain_stmt task.now.cells stmt.now) NoLoop) }
@@ -252,7 +241,9 @@ fn emit_part(
             body,
         } => {
             let body = body.as_slice();
-            emit_turns(code, task, firsts, total, most, *counter, *bound, test, body);
+            emit_turns(
+                code, task, firsts, total, most, *counter, *bound, test, body,
+            );
         }
         Stmt::Set { .. } | Stmt::SetAt { .. } | Stmt::Call { .. } | Stmt::If { .. } => {}
         Stmt::Scope { .. } | Stmt::Mark { .. } | Stmt::Sequence { .. } => {}

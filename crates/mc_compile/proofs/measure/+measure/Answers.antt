@@ -1,6 +1,6 @@
-use Rattle.std.proofs.Common.{rules, arith, ap, length, ◌<◌, ◌∙◌}
+use Rattle.std.proofs.Common.{arith, ap}
 use Rattle.std.proofs.Math.ListN.{drop_of_length-le}
-use Rattle.mc_tree.specs.Plain.{plain_stmt, plain_list, plain_loops}
+use Rattle.mc_tree.specs.Plain.{plain_list, plain_loops}
 use Rattle.mc_compile.specs.Emit.{params_of}
 use Rattle.mc_compile.specs.Translate.{bl_len, ls_len}
 use Rattle.mc_compile.proofs.measure.+measure.Goals as goal

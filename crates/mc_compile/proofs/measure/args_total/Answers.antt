@@ -1,4 +1,4 @@
-use Rattle.std.proofs.Common.{arith, ap, length}
+use Rattle.std.proofs.Common.{arith, ap}
 use Rattle.std.proofs.Math.ListN.{drop_of_length-le}
 use Rattle.mc_tree.specs.Plain.{plain_args}
 use Rattle.mc_compile.specs.Translate.{args_len}

@@ -1,4 +1,4 @@
-use Rattle.std.proofs.Common.{rules, ◌≡◌, ◌∙◌, arith, refl, sym, ap, subst, ◌<◌, length}
+use Rattle.std.proofs.Common.{rules, ◌∙◌, arith, sym, ap, subst, ◌<◌, length}
 use Rattle.std.specs.Prelude.{slice_index}
 use Rattle.mc_tree.proofs.Plain.{plain_set, plain_set_at, plain_scope, plain_sequence}
 use Rattle.mc_tree.specs.Plain.{plain_expr, plain_stmt, plain_list, plain_loops}

@@ -1,4 +1,4 @@
-use Rattle.std.proofs.Common.{rules, arith, ap, sym, refl, length, map, ◌∙◌}
+use Rattle.std.proofs.Common.{rules, arith, ap, sym, length, map, ◌∙◌}
 use Rattle.mc_tree.specs.Plain.{place_in}
 use Rattle.mc_compile.specs.Translate.{stores_code}
 use Rattle.mc_compile.proofs.Grow.{grows_as, grows_none, params_found, params_missing, length-found}
