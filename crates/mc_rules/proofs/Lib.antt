@@ -1,0 +1,11 @@
+pub mod Cells
+pub mod Expressions
+pub mod First
+pub mod Functions
+pub mod IsFirst
+pub mod Lookups
+pub mod NoFault
+pub mod Nodes
+pub mod Statements
+pub mod Whole
+pub mod Worked
