@@ -16,13 +16,15 @@ use word_code::{Code, Slot, Verified, cost};
 #[derive(Drop)]
 pub struct Machine {
     registers: Registers,
+    pc: usize,
     cycles: u32,
     turn: Turn,
     limit: u32,
 }
 
 impl Machine {
-    ghost use Rattle.word_machine.specs.Machine.{CanStep, Stepped};
+    ghost use Rattle.word_code.specs.Course.{IsOnCourse};
+    ghost use Rattle.word_machine.specs.Machine.{standing, Stopped};
 
     /// A machine with no program; what its calls answer before the first `load` is open.
     pub fn new(alloc: Global) -> Result<Machine, Memory> {
@@ -30,37 +32,55 @@ impl Machine {
         let counters = Counters::new(alloc)?;
         Ok(Machine {
             registers: Registers {
-                pc: 0,
                 stack: Operands::new(),
                 words,
                 counters,
                 returns: Returns::new(),
             },
+            pc: 0,
             cycles: 0,
             turn: Turn::Short,
             limit: 0,
         })
     }
 
-    // Does the next instruction, unless its cost would pass the limit; tells how the execution stands then.
-    fn step(&mut self, code: &Code, limit: u32) -> Option<Turn>
+    // Does instructions until the next one's cost would pass the limit or the execution is over, and tells how
+    // it stands then. The number of the instruction and the cycles are kept apart from the machine meanwhile.
+    fn run(&mut self, code: &Code, limit: u32) -> Turn
         requires limit { limit < 2 ^ 31 }
         requires verified { IsVerified code.now }
-        requires able { CanStep code.now self.old }
+        requires course { IsOnCourse code.now (standing code.now self.old) }
         requires below { self.old.cycles ≤ limit }
-        ensures { Stepped code.now limit self.old self.new result }
+        ensures { Stopped code.now limit self.old self.new result }
     {
-        let slot = slot_at(code, self.registers.pc);
-        let spent = self.cycles + cost(&slot.instr);
-        if spent > limit {
-            return Some(Turn::Short);
+        let mut pc = self.pc;
+        let mut cycles = self.cycles;
+        loop {
+            let slot = slot_at(code, pc);
+            let spent = cycles + cost(&slot.instr);
+            if spent > limit {
+                return self.stand(pc, cycles, Turn::Short);
+            }
+            match self.registers.act(pc, usize::from(slot.height), slot.instr) {
+                Went::On(next) => pc = next,
+                Went::Ended => return self.stand(pc, spent, Turn::Halted),
+                Went::Broke => return self.stand(pc, spent, Turn::Broken),
+            }
+            cycles = spent;
         }
-        self.cycles = spent;
-        match self.registers.act(slot.instr) {
-            Went::On => None,
-            Went::Ended => Some(Turn::Halted),
-            Went::Broke => Some(Turn::Broken),
-        }
+    }
+
+    // Stands before an instruction after so many cycles.
+    #[inline(always)]
+    fn stand(&mut self, pc: usize, cycles: u32, turn: Turn) -> Turn
+        ensures registers { self.new.registers ≡ self.old.registers }
+        ensures pc { self.new.pc ≡ pc }
+        ensures cycles { self.new.cycles ≡ cycles }
+        ensures turn { result ≡ turn }
+    {
+        self.pc = pc;
+        self.cycles = cycles;
+        turn
     }
 }
 
@@ -100,11 +120,10 @@ impl Cpu for Machine {
 
     fn load(&mut self, program: &Verified, state: &[i32], ins: &[i32]) {
         let code = program.code();
-        self.registers.pc = 0;
-        self.registers.stack.clear();
         fill(&mut self.registers.words, code, state, ins);
         self.registers.counters.reset(usize::from(code.counters));
         self.registers.returns.clear();
+        self.pc = 0;
         self.cycles = 0;
         self.turn = Turn::Short;
         self.limit = 0;
@@ -119,14 +138,10 @@ impl Cpu for Machine {
         if limit <= self.limit {
             return Turn::Short;
         }
-        let code = program.code();
-        loop {
-            if let Some(turn) = self.step(code, limit) {
-                self.limit = limit;
-                self.turn = turn;
-                return turn;
-            }
-        }
+        let turn = self.run(program.code(), limit);
+        self.limit = limit;
+        self.turn = turn;
+        turn
     }
 
     fn cycles(&self) -> u32 {
@@ -143,6 +158,7 @@ impl Cpu for Machine {
 }
 
 // The instruction at a number.
+#[inline(always)]
 fn slot_at(code: &Code, at: usize) -> Slot
     requires { at < length code.now.instrs }
     ensures { slice_get code.now.instrs at ≡ Some result }

@@ -1,56 +1,50 @@
 //! The operand stack and the return stack.
-ghost use Rattle.std.specs.Prelude.{◌≡◌, ◌<◌, [], ◌∷◌, length};
+ghost use Rattle.std.specs.Prelude.{◌≡◌, ◌+◌, ◌-◌, ◌<◌, ◌≤◌, [], ◌∷◌, length};
+ghost use Rattle.word_machine.specs.Stack.{operands};
 
 use arrayvec::ArrayVec;
 use std::marker::Model;
 
-/// At most 64 operands, which contracts see as their list with the top first.
+/// The words of the operand stack. How many of them are operands is the height of the next instruction, which
+/// verified code says: nobody counts them.
 #[derive(Drop)]
 pub struct Operands {
-    words: ArrayVec<i32, 64>,
+    words: [i32; 64],
 }
 
 impl Model for Operands {
-    ghost use Rattle.std.specs.Prelude.{List, ℤ, reverse};
+    ghost use Rattle.std.specs.Prelude.{◌≡◌, List, ℤ, length};
 
     ghost Value = { List ℤ };
 
-    ghost view = { λ stack. reverse stack.words.items };
+    ghost view = { λ stack. stack.words };
+
+    ghost invariant = { λ stack. length stack.words ≡ 64 };
 }
 
 impl Operands {
-    /// No operand.
-    pub fn new() -> Operands
-        ensures { result ≡ [] }
-    {
-        Operands {
-            words: ArrayVec::new(),
-        }
+    /// A stack of words that are 0.
+    pub fn new() -> Operands {
+        Operands { words: [0; 64] }
     }
 
-    /// Takes all operands off.
-    pub fn clear(&mut self)
-        ensures { self.new ≡ [] }
+    /// Puts a word onto so many operands.
+    #[inline(always)]
+    pub fn put(&mut self, height: usize, word: i32)
+        requires { height < 64 }
+        ensures { operands (height + 1) self.new ≡ word ∷ operands height self.old }
     {
-        self.words.clear();
+        self.words[height] = word;
     }
 
-    /// Puts a word on top.
-    #[inline]
-    pub fn push(&mut self, word: i32)
-        requires { length self.old < 64 }
-        ensures { self.new ≡ word ∷ self.old }
+    /// The top of so many operands.
+    #[inline(always)]
+    pub fn top(&self, height: usize) -> i32
+        requires some { 0 < height }
+        requires most { height ≤ 64 }
+        ensures { operands height self.now ≡ result ∷ operands (height - 1) self.now }
     {
-        self.words.push(word);
-    }
-
-    /// Takes the top off.
-    #[inline]
-    pub fn pop(&mut self) -> i32
-        requires { 0 < length self.old }
-        ensures { self.old ≡ result ∷ self.new }
-    {
-        self.words.pop().unwrap()
+        self.words[height - 1]
     }
 }
 
@@ -86,7 +80,7 @@ impl Returns {
     }
 
     /// Puts the number of one more call on top.
-    #[inline]
+    #[inline(always)]
     pub fn push(&mut self, number: u16)
         requires { length self.old < 16 }
         ensures { self.new ≡ number ∷ self.old }
@@ -95,7 +89,7 @@ impl Returns {
     }
 
     /// Takes the number of the last call off.
-    #[inline]
+    #[inline(always)]
     pub fn pop(&mut self) -> u16
         requires { 0 < length self.old }
         ensures { self.old ≡ result ∷ self.new }

@@ -69,7 +69,7 @@ impl Places {
     }
 
     /// The word at a place.
-    #[inline]
+    #[inline(always)]
     pub fn get(&self, place: usize) -> i32
         requires { place < length self.now }
         ensures { slice_get self.now place ≡ Some result }
@@ -78,7 +78,7 @@ impl Places {
     }
 
     /// Puts a word at a place.
-    #[inline]
+    #[inline(always)]
     pub fn set(&mut self, place: usize, word: i32)
         requires { place < length self.old }
         ensures { self.new ≡ slice_set self.old place word }
@@ -123,7 +123,7 @@ impl Counters {
     }
 
     /// The count of a counter.
-    #[inline]
+    #[inline(always)]
     pub fn get(&self, counter: usize) -> u16
         requires { counter < length self.now }
         ensures { slice_get self.now counter ≡ Some result }
@@ -132,7 +132,7 @@ impl Counters {
     }
 
     /// Sets a counter.
-    #[inline]
+    #[inline(always)]
     pub fn set(&mut self, counter: usize, count: u16)
         requires { counter < length self.old }
         ensures { self.new ≡ slice_set self.old counter count }

@@ -2,20 +2,17 @@
 ghost use Rattle.std.specs.Prelude.{◌≡◌, ◌+◌, ◌<◌, ◌≤◌, length};
 ghost use Rattle.mars_base.specs.Store.{place_of};
 ghost use Rattle.word_code.specs.Action.{Pushes, Loads, Stores, LoadsAt, StoresAt, Combines, Changes, Jumps, JumpsIfZero, Clears, Counts, Calls, Returns, action_of};
-ghost use Rattle.word_code.specs.Ready.{IsReady};
-ghost use Rattle.word_machine.specs.Acts.{state_of, Acts};
+ghost use Rattle.word_machine.specs.Acts.{IsAble, Acts};
 
 use crate::operands::{Operands, Returns as ReturnStack};
 use crate::places::{Counters, Places};
 use mars_base::{BinOp, UnOp, binary, unary};
 use word_code::Instr;
 
-/// What an execution has before an instruction.
+/// What an execution has before an instruction, but for its number.
 #[derive(Drop)]
 pub struct Registers {
-    /// The number of the instruction.
-    pub pc: usize,
-    /// The operands.
+    /// The words of the operand stack.
     pub stack: Operands,
     /// The words of data.
     pub words: Places,
@@ -28,8 +25,8 @@ pub struct Registers {
 /// How an instruction went.
 #[derive(Clone, Copy, Debug, PartialEq, Eq)]
 pub enum Went {
-    /// The next one stands in the registers.
-    On,
+    /// On to the instruction at this number.
+    On(usize),
     /// It ended the execution.
     Ended,
     /// It broke the execution.
@@ -37,183 +34,177 @@ pub enum Went {
 }
 
 impl Registers {
-    /// Does an instruction that lacks nothing.
-    pub fn act(&mut self, instr: Instr) -> Went
-        requires { IsReady (action_of instr) (state_of self.old) }
-        ensures { Acts (action_of instr) self.old result self.new }
+    /// Does the instruction at a number, of this height, which lacks nothing.
+    #[inline(always)]
+    pub fn act(&mut self, pc: usize, height: usize, instr: Instr) -> Went
+        requires { IsAble (action_of instr) pc height self.old }
+        ensures { Acts (action_of instr) pc height self.old result self.new }
     {
         match instr {
-            Instr::Push(word) => self.push(word),
-            Instr::Load(place) => self.load(place),
-            Instr::Store(place) => self.store(place),
-            Instr::LoadX { place, width } => self.load_at(place, width),
-            Instr::StoreX { place, width } => self.store_at(place, width),
-            Instr::Add => self.combine(BinOp::Add),
-            Instr::Sub => self.combine(BinOp::Sub),
-            Instr::Mul => self.combine(BinOp::Mul),
-            Instr::Div => self.combine(BinOp::Div),
-            Instr::Rem => self.combine(BinOp::Rem),
-            Instr::And => self.combine(BinOp::BitAnd),
-            Instr::Or => self.combine(BinOp::BitOr),
-            Instr::Xor => self.combine(BinOp::BitXor),
-            Instr::Shl => self.combine(BinOp::Shl),
-            Instr::Shr => self.combine(BinOp::Shr),
-            Instr::Eq => self.combine(BinOp::Eq),
-            Instr::Lt => self.combine(BinOp::Lt),
-            Instr::Le => self.combine(BinOp::Le),
-            Instr::Neg => self.change(UnOp::Neg),
-            Instr::Not => self.change(UnOp::Not),
-            Instr::Inv => self.change(UnOp::Inv),
-            Instr::Jmp(target) => self.jump(target),
-            Instr::Jz(target) => self.jump_if_zero(target),
-            Instr::CZero(counter) => self.clear(counter),
-            Instr::CInc { counter, bound } => self.count(counter, bound),
-            Instr::Call(target) => self.call(target),
-            Instr::Ret => self.go_back(),
+            Instr::Push(word) => self.push(pc, height, word),
+            Instr::Load(place) => self.load(pc, height, place),
+            Instr::Store(place) => self.store(pc, height, place),
+            Instr::LoadX { place, width } => self.load_at(pc, height, place, width),
+            Instr::StoreX { place, width } => self.store_at(pc, height, place, width),
+            Instr::Add => self.combine(pc, height, BinOp::Add),
+            Instr::Sub => self.combine(pc, height, BinOp::Sub),
+            Instr::Mul => self.combine(pc, height, BinOp::Mul),
+            Instr::Div => self.combine(pc, height, BinOp::Div),
+            Instr::Rem => self.combine(pc, height, BinOp::Rem),
+            Instr::And => self.combine(pc, height, BinOp::BitAnd),
+            Instr::Or => self.combine(pc, height, BinOp::BitOr),
+            Instr::Xor => self.combine(pc, height, BinOp::BitXor),
+            Instr::Shl => self.combine(pc, height, BinOp::Shl),
+            Instr::Shr => self.combine(pc, height, BinOp::Shr),
+            Instr::Eq => self.combine(pc, height, BinOp::Eq),
+            Instr::Lt => self.combine(pc, height, BinOp::Lt),
+            Instr::Le => self.combine(pc, height, BinOp::Le),
+            Instr::Neg => self.change(pc, height, UnOp::Neg),
+            Instr::Not => self.change(pc, height, UnOp::Not),
+            Instr::Inv => self.change(pc, height, UnOp::Inv),
+            Instr::Jmp(target) => Went::On(usize::from(target)),
+            Instr::Jz(target) => self.jump_if_zero(pc, height, target),
+            Instr::CZero(counter) => self.clear(pc, height, counter),
+            Instr::CInc { counter, bound } => self.count(pc, height, counter, bound),
+            Instr::Call(target) => self.call(pc, height, target),
+            Instr::Ret => self.go_back(pc, height),
             Instr::Halt => Went::Ended,
         }
     }
 
-    fn push(&mut self, word: i32) -> Went
-        requires { IsReady (Pushes word) (state_of self.old) }
-        ensures { Acts (Pushes word) self.old result self.new }
+    #[inline(always)]
+    fn push(&mut self, pc: usize, height: usize, word: i32) -> Went
+        requires { IsAble (Pushes word) pc height self.old }
+        ensures { Acts (Pushes word) pc height self.old result self.new }
     {
-        self.stack.push(word);
-        self.pc += 1;
-        Went::On
+        self.stack.put(height, word);
+        Went::On(pc + 1)
     }
 
-    fn load(&mut self, place: u16) -> Went
-        requires { IsReady (Loads place) (state_of self.old) }
-        ensures { Acts (Loads place) self.old result self.new }
+    #[inline(always)]
+    fn load(&mut self, pc: usize, height: usize, place: u16) -> Went
+        requires { IsAble (Loads place) pc height self.old }
+        ensures { Acts (Loads place) pc height self.old result self.new }
     {
         let word = self.words.get(usize::from(place));
-        self.stack.push(word);
-        self.pc += 1;
-        Went::On
+        self.stack.put(height, word);
+        Went::On(pc + 1)
     }
 
-    fn store(&mut self, place: u16) -> Went
-        requires { IsReady (Stores place) (state_of self.old) }
-        ensures { Acts (Stores place) self.old result self.new }
+    #[inline(always)]
+    fn store(&mut self, pc: usize, height: usize, place: u16) -> Went
+        requires { IsAble (Stores place) pc height self.old }
+        ensures { Acts (Stores place) pc height self.old result self.new }
     {
-        let word = self.stack.pop();
+        let word = self.stack.top(height);
         self.words.set(usize::from(place), word);
-        self.pc += 1;
-        Went::On
+        Went::On(pc + 1)
     }
 
-    fn load_at(&mut self, place: u16, width: u16) -> Went
-        requires { IsReady (LoadsAt place width) (state_of self.old) }
-        ensures { Acts (LoadsAt place width) self.old result self.new }
+    #[inline(always)]
+    fn load_at(&mut self, pc: usize, height: usize, place: u16, width: u16) -> Went
+        requires { IsAble (LoadsAt place width) pc height self.old }
+        ensures { Acts (LoadsAt place width) pc height self.old result self.new }
     {
-        let Some(at) = element(place, width, self.stack.pop()) else {
+        let Some(at) = element(place, width, self.stack.top(height)) else {
             return Went::Broke;
         };
         let word = self.words.get(at);
-        self.stack.push(word);
-        self.pc += 1;
-        Went::On
+        self.stack.put(height - 1, word);
+        Went::On(pc + 1)
     }
 
-    fn store_at(&mut self, place: u16, width: u16) -> Went
-        requires { IsReady (StoresAt place width) (state_of self.old) }
-        ensures { Acts (StoresAt place width) self.old result self.new }
+    #[inline(always)]
+    fn store_at(&mut self, pc: usize, height: usize, place: u16, width: u16) -> Went
+        requires { IsAble (StoresAt place width) pc height self.old }
+        ensures { Acts (StoresAt place width) pc height self.old result self.new }
     {
-        let word = self.stack.pop();
-        let Some(at) = element(place, width, self.stack.pop()) else {
+        let word = self.stack.top(height);
+        let Some(at) = element(place, width, self.stack.top(height - 1)) else {
             return Went::Broke;
         };
         self.words.set(at, word);
-        self.pc += 1;
-        Went::On
+        Went::On(pc + 1)
     }
 
-    fn combine(&mut self, op: BinOp) -> Went
-        requires { IsReady (Combines op) (state_of self.old) }
-        ensures { Acts (Combines op) self.old result self.new }
+    #[inline(always)]
+    fn combine(&mut self, pc: usize, height: usize, op: BinOp) -> Went
+        requires { IsAble (Combines op) pc height self.old }
+        ensures { Acts (Combines op) pc height self.old result self.new }
     {
-        let right = self.stack.pop();
-        let left = self.stack.pop();
+        let right = self.stack.top(height);
+        let left = self.stack.top(height - 1);
         let Some(word) = binary(op, left, right) else {
             return Went::Broke;
         };
-        self.stack.push(word);
-        self.pc += 1;
-        Went::On
+        self.stack.put(height - 2, word);
+        Went::On(pc + 1)
     }
 
-    fn change(&mut self, op: UnOp) -> Went
-        requires { IsReady (Changes op) (state_of self.old) }
-        ensures { Acts (Changes op) self.old result self.new }
+    #[inline(always)]
+    fn change(&mut self, pc: usize, height: usize, op: UnOp) -> Went
+        requires { IsAble (Changes op) pc height self.old }
+        ensures { Acts (Changes op) pc height self.old result self.new }
     {
-        let word = self.stack.pop();
-        self.stack.push(unary(op, word));
-        self.pc += 1;
-        Went::On
+        let word = self.stack.top(height);
+        self.stack.put(height - 1, unary(op, word));
+        Went::On(pc + 1)
     }
 
-    fn jump(&mut self, target: u16) -> Went
-        requires { IsReady (Jumps target) (state_of self.old) }
-        ensures { Acts (Jumps target) self.old result self.new }
+    #[inline(always)]
+    fn jump_if_zero(&mut self, pc: usize, height: usize, target: u16) -> Went
+        requires { IsAble (JumpsIfZero target) pc height self.old }
+        ensures { Acts (JumpsIfZero target) pc height self.old result self.new }
     {
-        self.pc = usize::from(target);
-        Went::On
-    }
-
-    fn jump_if_zero(&mut self, target: u16) -> Went
-        requires { IsReady (JumpsIfZero target) (state_of self.old) }
-        ensures { Acts (JumpsIfZero target) self.old result self.new }
-    {
-        if self.stack.pop() == 0 {
-            self.pc = usize::from(target);
+        if self.stack.top(height) == 0 {
+            Went::On(usize::from(target))
         } else {
-            self.pc += 1;
+            Went::On(pc + 1)
         }
-        Went::On
     }
 
-    fn clear(&mut self, counter: u8) -> Went
-        requires { IsReady (Clears counter) (state_of self.old) }
-        ensures { Acts (Clears counter) self.old result self.new }
+    #[inline(always)]
+    fn clear(&mut self, pc: usize, height: usize, counter: u8) -> Went
+        requires { IsAble (Clears counter) pc height self.old }
+        ensures { Acts (Clears counter) pc height self.old result self.new }
     {
         self.counters.set(usize::from(counter), 0);
-        self.pc += 1;
-        Went::On
+        Went::On(pc + 1)
     }
 
-    fn count(&mut self, counter: u8, bound: u16) -> Went
-        requires { IsReady (Counts counter bound) (state_of self.old) }
-        ensures { Acts (Counts counter bound) self.old result self.new }
+    #[inline(always)]
+    fn count(&mut self, pc: usize, height: usize, counter: u8, bound: u16) -> Went
+        requires { IsAble (Counts counter bound) pc height self.old }
+        ensures { Acts (Counts counter bound) pc height self.old result self.new }
     {
         let count = self.counters.get(usize::from(counter));
         if count >= bound {
             return Went::Broke;
         }
         self.counters.set(usize::from(counter), count + 1);
-        self.pc += 1;
-        Went::On
+        Went::On(pc + 1)
     }
 
-    fn call(&mut self, target: u16) -> Went
-        requires { IsReady (Calls target) (state_of self.old) }
-        ensures { Acts (Calls target) self.old result self.new }
+    #[inline(always)]
+    fn call(&mut self, pc: usize, height: usize, target: u16) -> Went
+        requires { IsAble (Calls target) pc height self.old }
+        ensures { Acts (Calls target) pc height self.old result self.new }
     {
-        self.returns.push((self.pc + 1) as u16);
-        self.pc = usize::from(target);
-        Went::On
+        self.returns.push((pc + 1) as u16);
+        Went::On(usize::from(target))
     }
 
-    fn go_back(&mut self) -> Went
-        requires { IsReady Returns (state_of self.old) }
-        ensures { Acts Returns self.old result self.new }
+    #[inline(always)]
+    fn go_back(&mut self, pc: usize, height: usize) -> Went
+        requires { IsAble Returns pc height self.old }
+        ensures { Acts Returns pc height self.old result self.new }
     {
-        self.pc = usize::from(self.returns.pop());
-        Went::On
+        Went::On(usize::from(self.returns.pop()))
     }
 }
 
 // The place of the element that an index names in an array of this width, if the index is in range.
+#[inline(always)]
 fn element(place: u16, width: u16, index: i32) -> Option<usize>
     ensures { result ≡ place_of place width index }
 {

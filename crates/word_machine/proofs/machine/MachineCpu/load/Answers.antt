@@ -1,6 +1,5 @@
-use Rattle.std.proofs.Common.{◌≡◌, refl, ap, ◌∙◌, List, ℤ, ℕ, replicate, []}
-use Rattle.word_code.specs.Cells.{start_of, words_at_start}
-use Rattle.word_code.specs.State.{at}
+use Rattle.std.proofs.Common.{◌≡◌, refl, ap, ◌∙◌, ℕ, replicate}
+use Rattle.word_code.specs.Cells.{words_at_start}
 use Rattle.word_code.specs.declared.code.Code.{Code}
 use Rattle.word_machine.proofs.Turns.{loaded}
 use Rattle.word_machine.proofs.machine.MachineCpu.load.Goals as goal
@@ -12,8 +11,4 @@ returns-clause-runs c =
     let counters : c.reset.new.self ≡ replicate c.args.program.now.counters 0 =
     c.reset.ensures ∙ ap (λ n. replicate n 0) (c.from.ensures ∙ ap (λ (code : Code). code.counters) c.code-code.ensures.value) in
     loaded c.args.program.now _ c.args.state.now c.args.ins.now c.code-code.ensures.verified c.requires.state c.requires.ins
-    (ap (λ (st : List ℤ). at 0 st c.fill.new.words c.reset.new.self c.clear-2.new.self) c.clear.ensures
-    ∙ ap (λ (ws : List ℤ). at 0 [] ws c.reset.new.self c.clear-2.new.self) words
-    ∙ ap (λ (ks : List ℕ). at 0 [] (words_at_start c.args.program.now c.args.state.now c.args.ins.now) ks c.clear-2.new.self) counters
-    ∙ ap (λ (rs : List ℕ). at 0 [] (words_at_start c.args.program.now c.args.state.now c.args.ins.now) (replicate c.args.program.now.counters 0) rs) c.clear-2.ensures)
-    refl refl refl
+    words counters c.clear.ensures refl refl refl refl
