@@ -17,6 +17,7 @@ abbrev pub all_of : List ℕ → ℕ
 all_of [] = 0
 all_of (k ∷ ks) = k + all_of ks
 
+-- both ways to add up the turns
 all_is_sum : (ks : List ℕ) → sum ks ≡ all_of ks
 all_is_sum [] = refl
 all_is_sum (k ∷ ks) = sum-cons k ks ∙ ap (λ n. k + n) (all_is_sum ks)

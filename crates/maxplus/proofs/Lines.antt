@@ -29,6 +29,7 @@ unfolding fold_convolution
 fold_zero f zero v e = (refl, omega (arith, e))
 fold_zero f (suc k) v e = absurd (let x : ⊥ = omega (arith, e) in x)
 
+-- a product with a sum
 times_sum : (a b c : ℕ) → (a + b) * c ≡ a * c + b * c
 times_sum a b c = omega arith
 

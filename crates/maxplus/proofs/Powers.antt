@@ -57,6 +57,7 @@ regroup_low f g h k =
     omega (arith, e, a, c, d))
     (convolution_reached g h j))
 
+-- and the other way round
 regroup_high : (f g h : ℕ → ℕ) (k : ℕ) → convolution (convolution f g) h k ≤ convolution f (convolution g h) k
 regroup_high f g h k =
     convolution_least (convolution f g) h k (convolution f (convolution g h) k) (λ i j sum. ⊎_elim
@@ -70,6 +71,7 @@ regroup_high f g h k =
     omega (arith, e, a, c, d))
     (convolution_reached f g i))
 
+-- so both are the same
 pub convolution_regroups : (f g h : ℕ → ℕ) (k : ℕ) → convolution f (convolution g h) k ≡ convolution (convolution f g) h k
 convolution_regroups f g h k =
     let low = regroup_low f g h k in
@@ -81,6 +83,7 @@ identity_product : (g : ℕ → ℕ) (k i j : ℕ) → i + j ≡ k → product (
 identity_product g k zero j sum = let same : j ≡ k = omega (arith, sum) in let e = ap g same in let one = product_one (g j) in omega (arith, e, one)
 identity_product g k (suc i) j sum = omega arith
 
+-- the identity changes nothing
 pub convolution_identity : (g : ℕ → ℕ) (k : ℕ) → convolution identity g k ≡ g k
 convolution_identity g k =
     let low = convolution_least identity g k (g k) (identity_product g k) in

@@ -17,6 +17,7 @@ inside_list [] k some = absurd (let x : ⊥ = omega (arith, some) in x)
 inside_list (x ∷ v) zero some = omega arith
 inside_list (x ∷ v) (suc k) some = let rest = inside_list v k some in omega (arith, rest)
 
+-- a list that is concave, as a vector without an end
 concave_list : (v : List ℕ) → IsConcave v → Concave (entries v)
 concave_list v c = record {
   first = c.first;
@@ -70,6 +71,7 @@ line_after f c (suc d) i (suc k) sum some =
     let s = slopes_fall f c d i k (omega (arith, sum)) some in
     omega (arith, so_far, s)
 
+-- and d before the next one
 line_before : (f : ℕ → ℕ) → Concave f → (d i k : ℕ) → d + k ≡ suc i → 0 < f (suc i) → f k + d * f (suc i) ≤ f (suc i) + d * f i
 line_before f c zero i k sum some = let same : k ≡ suc i = omega (arith, sum) in let e = ap f same in omega (arith, e)
 line_before f c (suc d) i k sum some =

@@ -25,10 +25,12 @@ height_some (Elem p n i) = height_some i
 height_some (Un op a) = height_some a
 height_some (Bin op l r) = omega arith
 
+-- a number has no more than what it stands for
 height_or : (o : Option ℤ) (x : Ex) → height (or_num o x) ≤ height x
 height_or None x = omega arith
 height_or (Some w) x = height_some x
 
+-- of an expression
 height_folded : (x : Ex) → height (folded_ex x) ≤ height x
 height_folded (Num w) = omega arith
 height_folded (Var p) = omega arith
@@ -43,6 +45,7 @@ height_folded (Bin op l r) =
     let right = height_folded r in
     omega (arith, one, left, right)
 
+-- of arguments
 args_height_folded : (xs : List Ex) → args_height (map folded_ex xs) ≤ args_height xs
 args_height_folded [] = omega arith
 args_height_folded (x ∷ xs) = let one = height_folded x in let rest = args_height_folded xs in omega (arith, one, rest)
@@ -55,10 +58,12 @@ nodes_some (Elem p n i) = omega arith
 nodes_some (Un op a) = omega arith
 nodes_some (Bin op l r) = omega arith
 
+-- a number has no more than what it stands for
 nodes_or : (o : Option ℤ) (x : Ex) → nodes (or_num o x) ≤ nodes x
 nodes_or None x = omega arith
 nodes_or (Some w) x = nodes_some x
 
+-- of an expression
 nodes_folded : (x : Ex) → nodes (folded_ex x) ≤ nodes x
 nodes_folded (Num w) = omega arith
 nodes_folded (Var p) = omega arith
@@ -73,11 +78,13 @@ nodes_folded (Bin op l r) =
     let right = nodes_folded r in
     omega (arith, one, left, right)
 
+-- of arguments
 args_nodes_folded : (xs : List Ex) → args_nodes (map folded_ex xs) ≤ args_nodes xs
 args_nodes_folded [] = omega arith
 args_nodes_folded (x ∷ xs) = let one = nodes_folded x in let rest = args_nodes_folded xs in omega (arith, one, rest)
 
 mutual
+  -- of a statement
   st_nodes_folded : (x : St) → st_nodes (folded_st x) ≤ st_nodes x
   st_nodes_folded (Assign p v) = let a = nodes_folded v in omega (arith, a)
   st_nodes_folded (AssignAt p n i v) = let a = nodes_folded i in let b = nodes_folded v in omega (arith, a, b)
@@ -89,18 +96,22 @@ mutual
   st_nodes_folded (Count c n) = omega arith
   st_nodes_folded (Series c n l) = let y = ls_nodes_folded l in omega (arith, y)
 
+  -- of a block
   bl_nodes_folded : (b : Bl) → bl_nodes (folded_bl b) ≤ bl_nodes b
   bl_nodes_folded Nil = omega arith
   bl_nodes_folded (Then x rest) = let y = st_nodes_folded x in let z = bl_nodes_folded rest in omega (arith, y, z)
 
+  -- of the loops of a sequence
   ls_nodes_folded : (l : Ls) → ls_nodes (folded_ls l) ≤ ls_nodes l
   ls_nodes_folded NoLoop = omega arith
   ls_nodes_folded (OneLoop c n t a rest) = let x = nodes_folded t in let y = bl_nodes_folded a in let z = ls_nodes_folded rest in omega (arith, x, y, z)
 
+-- of functions
 fns_nodes_folded : (fs : List Fn) → fns_nodes (map folded_fn fs) ≤ fns_nodes fs
 fns_nodes_folded [] = omega arith
 fns_nodes_folded (f ∷ fs) = let x = bl_nodes_folded f.body in let y = nodes_folded f.answer in let z = fns_nodes_folded fs in omega (arith, x, y, z)
 
+-- of the whole tree
 pub tree_nodes_folded : (t : Tree) → tree_nodes (folded_tree t) ≤ tree_nodes t
 tree_nodes_folded t = let x = bl_nodes_folded t.body in let z = fns_nodes_folded t.funcs in omega (arith, x, z)
 
@@ -112,10 +123,12 @@ sound_un seen op (Elem p n i) s = s
 sound_un seen op (Un o a) s = s
 sound_un seen op (Bin o l r) s = s
 
+-- an operator over two numbers
 sound_both : (seen : List Cell) (op : BinOp) (x y : ℤ) (o : Option ℤ) → binary_of op x y ≡ o → SoundE seen (Num x) → SoundE seen (Num y) → SoundE seen (or_num o (Bin op (Num x) (Num y)))
 sound_both seen op x y None e a b = (a, b)
 sound_both seen op x y (Some v) e a b = binary_word op x y v a b e
 
+-- an operator over two expressions
 sound_bin : (seen : List Cell) (op : BinOp) (l r : Ex) → SoundE seen l → SoundE seen r → SoundE seen (folded_bin op l r)
 sound_bin seen op (Num x) (Num y) s t = sound_both seen op x y (binary_of op x y) refl s t
 sound_bin seen op (Num x) (Var p) s t = (s, t)
@@ -127,6 +140,7 @@ sound_bin seen op (Elem p n i) r s t = (s, t)
 sound_bin seen op (Un o a) r s t = (s, t)
 sound_bin seen op (Bin o a b) r s t = (s, t)
 
+-- an expression
 sound_ex : (seen : List Cell) (x : Ex) → SoundE seen x → SoundE seen (folded_ex x)
 sound_ex seen (Num w) s = s
 sound_ex seen (Var p) s = s
@@ -134,10 +148,12 @@ sound_ex seen (Elem p n i) s = (s.0, sound_ex seen i s.1)
 sound_ex seen (Un op a) s = sound_un seen op (folded_ex a) (sound_ex seen a s)
 sound_ex seen (Bin op l r) s = sound_bin seen op (folded_ex l) (folded_ex r) (sound_ex seen l s.0) (sound_ex seen r s.1)
 
+-- a test or a value
 sound_test : (seen : List Cell) (x : Ex) → SoundTest seen x → SoundTest seen (folded_ex x)
 sound_test seen x s = (sound_ex seen x s.0, let h = height_folded x in omega (arith, h, s.1))
 
 mutual
+  -- a statement
   sound_st : (seen : List Cell) (x : St) → Sound seen x → Sound seen (folded_st x)
   sound_st seen (Assign p v) s = (s.0, sound_test seen v s.1)
   sound_st seen (AssignAt p n i v) s = (s.0, sound_ex seen i s.1, sound_ex seen v s.2, let a = height_folded i in let b = height_folded v in omega (arith, a, b, s.3))
@@ -150,16 +166,19 @@ mutual
   sound_st seen (Count c n) s = s
   sound_st seen (Series c n l) s = (s.0, sound_ls seen l s.1)
 
+  -- a block
   sound_bl : (seen : List Cell) (b : Bl) → SoundB seen b → SoundB seen (folded_bl b)
   sound_bl seen Nil s = s
   sound_bl seen (Then x rest) s = (sound_st seen x s.0, sound_bl seen rest s.1)
 
+  -- the loops of a sequence
   sound_ls : (seen : List Cell) (l : Ls) → SoundL seen l → SoundL seen (folded_ls l)
   sound_ls seen NoLoop s = s
   sound_ls seen (OneLoop c n t a rest) s = (s.0, sound_test seen t s.1, sound_bl seen a s.2, sound_ls seen rest s.3)
 
 -- the counters
 mutual
+  -- of a statement
   counted_st : (params : ℕ → List ℕ) (cur sc kb lo : ℕ) (x : St) (hi : ℕ) → Counted params cur sc kb lo x hi → Counted params cur sc kb lo (folded_st x) hi
   counted_st params cur sc kb lo (Assign p v) hi c = c
   counted_st params cur sc kb lo (AssignAt p n i v) hi c = c
@@ -171,14 +190,17 @@ mutual
   counted_st params cur sc kb lo (Count k n) hi c = c
   counted_st params cur sc kb lo (Series k n l) hi c = (c.0, counted_ls params cur (suc lo) l hi c.1)
 
+  -- of a block
   counted_bl : (params : ℕ → List ℕ) (cur sc kb lo : ℕ) (b : Bl) (hi : ℕ) → CountedB params cur sc kb lo b hi → CountedB params cur sc kb lo (folded_bl b) hi
   counted_bl params cur sc kb lo Nil hi c = c
   counted_bl params cur sc kb lo (Then x rest) hi c = (c.0, counted_st params cur sc kb lo x c.0 c.1, counted_bl params cur sc kb c.0 rest hi c.2)
 
+  -- of the loops of a sequence
   counted_ls : (params : ℕ → List ℕ) (cur lo : ℕ) (l : Ls) (hi : ℕ) → CountedL params cur lo l hi → CountedL params cur lo (folded_ls l) hi
   counted_ls params cur lo NoLoop hi c = c
   counted_ls params cur lo (OneLoop k n t a rest) hi c = (c.0, c.1, counted_bl params cur 0 0 (suc lo) a c.0 c.2, counted_ls params cur c.0 rest hi c.3)
 
+-- of functions
 counted_fns : (params : ℕ → List ℕ) (cur lo : ℕ) (fs : List Fn) (hi : ℕ) → CountedF params cur lo fs hi → CountedF params cur lo (map folded_fn fs) hi
 counted_fns params cur lo [] hi c = c
 counted_fns params cur lo (f ∷ fs) hi c = (c.0, counted_bl params cur 0 0 lo f.body c.0 c.1, counted_fns params (suc cur) c.0 fs hi c.2)
@@ -193,6 +215,7 @@ fn_checked globals params locals f c = record {
   answer = sound_test (globals ++ (params ++ locals)) f.answer c.answer;
 }
 
+-- all routines
 routines : (globals cells : List Cell) (fs : List Fn) (body : Bl) → Routines globals cells fs body → Routines globals cells (map folded_fn fs) (folded_bl body)
 routines globals cells [] body r = (r.0, sound_bl (globals ++ cells) body r.1)
 routines globals cells (f ∷ fs) body r = (r.0, r.1, r.2, r.3, fn_checked globals r.0 r.1 f r.4, routines globals r.2 fs body r.5)

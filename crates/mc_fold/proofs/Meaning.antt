@@ -12,6 +12,7 @@ use Rattle.mc_tree.specs.Instance.{ended, words_at_start, instance_of}
 use Rattle.mc_tree.specs.Tree.{Ex, Num, Var, Elem, Un, Bin, St, Assign, AssignAt, Invoke, When, Choice, Loop, Scoped, Count, Series, Bl, Nil, Then, Ls, NoLoop, OneLoop, Fn, Tree}
 use Rattle.mc_fold.proofs.Mirror.{or_num, folded_un, folded_bin, folded_ex, folded_st, folded_bl, folded_ls, folded_fn, folded_tree}
 
+-- an operator over one expression
 value_un : (op : UnOp) (a : Ex) (cells : List ℤ) → value_of (folded_un op a) cells ≡ then_word (value_of a cells) (λ v. Some (unary_of op v))
 value_un op (Num w) cells = refl
 value_un op (Var p) cells = refl
@@ -19,10 +20,12 @@ value_un op (Elem p n i) cells = refl
 value_un op (Un o a) cells = refl
 value_un op (Bin o l r) cells = refl
 
+-- an operator over two numbers
 value_both : (op : BinOp) (x y : ℤ) (cells : List ℤ) (o : Option ℤ) → binary_of op x y ≡ o → value_of (or_num o (Bin op (Num x) (Num y))) cells ≡ binary_of op x y
 value_both op x y cells None e = refl
 value_both op x y cells (Some v) e = sym e
 
+-- an operator over two expressions
 value_bin : (op : BinOp) (l r : Ex) (cells : List ℤ) → value_of (folded_bin op l r) cells ≡ both (binary_of op) (value_of l cells) (value_of r cells)
 value_bin op (Num x) (Num y) cells = value_both op x y cells (binary_of op x y) refl
 value_bin op (Num x) (Var p) cells = refl
@@ -45,6 +48,7 @@ value_folded (Bin op l r) cells =
     ∙ ap (λ o. both (binary_of op) o (value_of (folded_ex r) cells)) (value_folded l cells)
     ∙ ap (both (binary_of op) (value_of l cells)) (value_folded r cells)
 
+-- arguments
 values_folded : (xs : List Ex) (cells : List ℤ) → values_of (map folded_ex xs) cells ≡ values_of xs cells
 values_folded [] cells = refl
 values_folded (x ∷ xs) cells =
@@ -71,10 +75,12 @@ module _ (params : ℕ → List ℕ) (run : ℕ → List ℤ → Back) where
     series_folded k NoLoop = refl
     series_folded k (OneLoop c n t a rest) = λ i cells m. then_do (series_turns n k (λ cs. value_folded t cs i) (λ ds. all_folded a i ds 0) cells m) (series_folded k rest i)
 
+  -- the answer of a function
   answer_same : (x : Ex) (r : After) → answer_of (folded_ex x) r ≡ answer_of x r
   answer_same x Broken = refl
   answer_same x (Done cells m) = ap (answered cells) (value_folded x cells)
 
+  -- a function
   fn_same : (f : Fn) (cells : List ℤ) → run_fn params run (folded_fn f) cells ≡ run_fn params run f cells
   fn_same f cells = answer_same f.answer (all_do params run (folded_bl f.body) cells 0) ∙ ap (λ d. answer_of f.answer (d cells 0)) (all_folded f.body)
 
@@ -87,14 +93,17 @@ functions_folded params (f ∷ fs) =
     let this = λ (cells : List ℤ). fn_same params (run_all params (map folded_fn fs)) f cells ∙ ap (λ r. run_fn params r f cells) before in
     λ i g cells. if nat_eq g (long i) then this cells i else before i g cells
 
+-- the parameters of the function of a number
 params_same : (fs : List Fn) (g : ℕ) → params_at (map folded_fn fs) g ≡ params_at fs g
 params_same [] g = refl
 params_same (f ∷ fs) zero = refl
 params_same (f ∷ fs) (suc g) = params_same fs g
 
+-- and of all functions
 pub params_folded : (fs : List Fn) → params_at (map folded_fn fs) ≡ params_at fs
 params_folded fs = λ i g. params_same fs g i
 
+-- folding and reversing may change places
 reversed_onto : (fs done : List Fn) → reverse_aux (map folded_fn fs) (map folded_fn done) ≡ map folded_fn (reverse_aux fs done)
 reversed_onto [] done = refl
 reversed_onto (f ∷ fs) done = reversed_onto fs (f ∷ done)

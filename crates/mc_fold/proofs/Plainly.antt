@@ -21,6 +21,7 @@ use Rattle.mc_fold.specs.Folded.{number_in, number_of, or_number, folded_expr, f
 use Rattle.mc_fold.proofs.Mirror.{num_of, or_num, folded_un, folded_bin, folded_ex, folded_st, folded_bl, folded_ls, folded_fn, folded_tree}
 use Rattle.mc_fold.proofs.Rules.{folded_is_number, folded_is_cell, folded_is_at, folded_is_unary, folded_is_binary, folded_is_set, folded_is_set_at, folded_is_call, folded_is_when, folded_is_choice, folded_is_while, folded_is_scope, folded_is_mark, folded_is_sequence}
 
+-- one level of the lemma below
 number_layer : (cells : List Cell) (y : E.Expr-F Expr) → number_of (roll-Expr y) ≡ num_of (plain_expr cells (roll-Expr y))
 unfolding number_of plain_expr
 number_layer cells (E.Number w) = ap number_in (out-roll-Expr (E.Number w)) ∙ sym (ap num_of (fold-roll-Expr Ex (ex_of cells) (E.Number w)))
@@ -33,13 +34,16 @@ number_layer cells (E.Binary op l r) = ap number_in (out-roll-Expr (E.Binary op 
 number_plain : (cells : List Cell) (x : Expr) → number_of x ≡ num_of (plain_expr cells x)
 number_plain cells x = subst (λ z. number_of z ≡ num_of (plain_expr cells z)) (roll-out-Expr x) (number_layer cells (out-Expr x))
 
+-- a number, or the expression as it stands
 plain_or_number : (cells : List Cell) (o : Option ℤ) (x : Expr) → plain_expr cells (or_number o x) ≡ or_num o (plain_expr cells x)
 plain_or_number cells None x = refl
 plain_or_number cells (Some w) x = plain_number cells w
 
+-- an expression whose folded form is plainly the folded one
 abbrev Alike : List Cell → Expr → Type 0
 Alike cells x = plain_expr cells (folded_expr x) ≡ folded_ex (plain_expr cells x)
 
+-- an operator over one
 alike_unary : (cells : List Cell) (op : UnOp) (a : Expr) → Alike cells a → Alike cells (e.Unary op a)
 alike_unary cells op a ok =
     let f = λ (w : ℤ). Some (unary_of op w) in
@@ -51,6 +55,7 @@ alike_unary cells op a ok =
     ∙ ap (folded_un op) ok
     ∙ ap folded_ex (sym (plain_unary cells op a))
 
+-- an operator over two
 alike_binary : (cells : List Cell) (op : BinOp) (l r : Expr) → Alike cells l → Alike cells r → Alike cells (e.Binary op l r)
 alike_binary cells op l r left right =
     let f = binary_of op in
@@ -65,6 +70,7 @@ alike_binary cells op l r left right =
     ∙ ap (folded_bin op (folded_ex (plain_expr cells l))) right
     ∙ ap folded_ex (sym (plain_binary cells op l r))
 
+-- one level of an expression
 alike_layer : (cells : List Cell) {A : Type 0} (x_of : A → Expr) (ok : (a : A) → Alike cells (x_of a)) (y : E.Expr-F A) → Alike cells (roll-Expr (map-Expr A Expr x_of y))
 alike_layer cells x_of ok (E.Number w) =
     subst (Alike cells) (sym (e.rolls-Number w)) (ap (plain_expr cells) (folded_is_number w) ∙ plain_number cells w ∙ ap folded_ex (sym (plain_number cells w)))
@@ -81,10 +87,12 @@ alike_layer cells x_of ok (E.Binary op l r) = subst (Alike cells) (sym (e.rolls-
 pub plain_folded : (cells : List Cell) (x : Expr) → plain_expr cells (folded_expr x) ≡ folded_ex (plain_expr cells x)
 plain_folded cells = ind-Expr (Alike cells) (λ x y is. subst (λ (z : E.Expr-F Expr). Alike cells (roll-Expr z)) is (alike_layer cells (λ d. d.0) (λ d. d.1) y))
 
+-- arguments
 plain_args_folded : (cells : List Cell) (args : List Expr) → map (plain_expr cells) (map folded_expr args) ≡ map folded_ex (map (plain_expr cells) args)
 plain_args_folded cells [] = refl
 plain_args_folded cells (x ∷ xs) = ap (λ y. y ∷ map (plain_expr cells) (map folded_expr xs)) (plain_folded cells x) ∙ ap (λ ys. folded_ex (plain_expr cells x) ∷ ys) (plain_args_folded cells xs)
 
+-- the same of a statement
 abbrev AlikeSt : List Cell → Stmt → Type 0
 AlikeSt cells x = plain_stmt cells (folded_stmt x) ≡ folded_st (plain_stmt cells x)
 
@@ -94,6 +102,7 @@ alike_list cells s_of ok [] = refl
 alike_list cells s_of ok (a ∷ parts) =
     ap (λ x. Then x (plain_list cells (map folded_stmt (map s_of parts)))) (ok a) ∙ ap (Then (folded_st (plain_stmt cells (s_of a)))) (alike_list cells s_of ok parts)
 
+-- one more loop in front
 folded_before : (x : St) (l : Ls) → loop_before (folded_st x) (folded_ls l) ≡ folded_ls (loop_before x l)
 folded_before (Assign p v) l = refl
 folded_before (AssignAt p n i v) l = refl
@@ -113,6 +122,7 @@ alike_loops cells s_of ok (a ∷ parts) =
     ∙ ap (loop_before (folded_st (plain_stmt cells (s_of a)))) (alike_loops cells s_of ok parts)
     ∙ folded_before (plain_stmt cells (s_of a)) (plain_loops cells (map s_of parts))
 
+-- one level of a statement
 st_layer : (cells : List Cell) {A : Type 0} (s_of : A → Stmt) (ok : (a : A) → AlikeSt cells (s_of a)) (x : S.Stmt-F A) → AlikeSt cells (roll-Stmt (map-Stmt A Stmt s_of x))
 st_layer cells s_of ok (S.Set c v) =
     subst (AlikeSt cells) (sym (s.rolls-Set c v))
@@ -167,11 +177,13 @@ st_layer cells s_of ok (S.Sequence c n l) =
 pub plain_folded_st : (cells : List Cell) (x : Stmt) → plain_stmt cells (folded_stmt x) ≡ folded_st (plain_stmt cells x)
 plain_folded_st cells = ind-Stmt (AlikeSt cells) (λ x y is. subst (λ (z : S.Stmt-F Stmt). AlikeSt cells (roll-Stmt z)) is (st_layer cells (λ d. d.0) (λ d. d.1) y))
 
+-- the statements of a list
 plain_folded_list : (cells : List Cell) (ss : List Stmt) → plain_list cells (map folded_stmt ss) ≡ folded_bl (plain_list cells ss)
 plain_folded_list cells [] = refl
 plain_folded_list cells (x ∷ xs) =
     ap (λ y. Then y (plain_list cells (map folded_stmt xs))) (plain_folded_st cells x) ∙ ap (Then (folded_st (plain_stmt cells x))) (plain_folded_list cells xs)
 
+-- a function
 plain_folded_func : (cells : List Cell) (f : Func) → plain_func cells (folded_func f) ≡ folded_fn (plain_func cells f)
 plain_folded_func cells f = λ i. record {
   params = map (place_in cells) f.params;
@@ -179,6 +191,7 @@ plain_folded_func cells f = λ i. record {
   answer = plain_folded cells f.answer i;
 }
 
+-- functions
 plain_folded_funcs : (cells : List Cell) (fs : List Func) → map (plain_func cells) (map folded_func fs) ≡ map folded_fn (map (plain_func cells) fs)
 plain_folded_funcs cells [] = refl
 plain_folded_funcs cells (f ∷ fs) =

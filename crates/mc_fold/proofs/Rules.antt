@@ -10,6 +10,7 @@ use Rattle.mc_tree.specs.declared.tree.Stmt.TheOpen as S
 use Rattle.mc_tree.specs.declared.tree.Stmt.TheVariants as s
 use Rattle.mc_fold.specs.Folded.{number_in, number_of, folded_unary, folded_binary, folded_part, folded_expr, folded_step, folded_stmt}
 
+-- the number of an expression
 pub number_number : (w : ℤ) → number_of (e.Number w) ≡ Some w
 unfolding number_of
 number_number w = ap number_in (e.outs-Number w)
@@ -30,6 +31,7 @@ pub number_binary : (op : BinOp) (l r : Expr) → number_of (e.Binary op l r) �
 unfolding number_of
 number_binary op l r = ap number_in (e.outs-Binary op l r)
 
+-- a folded expression
 pub folded_is_number : (w : ℤ) → folded_expr (e.Number w) ≡ e.Number w
 unfolding folded_expr
 folded_is_number w = ap folded_expr (sym (e.rolls-Number w)) ∙ fold-roll-Expr Expr folded_part (E.Number w)
@@ -50,6 +52,7 @@ pub folded_is_binary : (op : BinOp) (l r : Expr) → folded_expr (e.Binary op l 
 unfolding folded_expr
 folded_is_binary op l r = ap folded_expr (sym (e.rolls-Binary op l r)) ∙ fold-roll-Expr Expr folded_part (E.Binary op l r)
 
+-- a folded statement
 pub folded_is_set : (c : ℕ) (v : Expr) → folded_stmt (s.Set c v) ≡ s.Set c (folded_expr v)
 unfolding folded_stmt
 folded_is_set c v = ap folded_stmt (sym (s.rolls-Set c v)) ∙ fold-roll-Stmt Stmt folded_step (S.Set c v)

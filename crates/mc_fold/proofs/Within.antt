@@ -23,6 +23,7 @@ use Rattle.mc_fold.proofs.Checks.{checked_folded, tree_nodes_folded}
 use Rattle.mc_fold.proofs.Plainly.{plain_folded_task}
 use Rattle.mc_fold.proofs.Rules.{folded_is_number, folded_is_cell, folded_is_at, folded_is_unary, folded_is_binary, folded_is_set, folded_is_set_at, folded_is_call, folded_is_when, folded_is_choice, folded_is_while, folded_is_scope, folded_is_mark, folded_is_sequence}
 
+-- the parts of a conjunction
 left_true : (a b : Bool) → IsTrue (a && b) → IsTrue a
 left_true true b h = refl
 left_true false b h = cc
@@ -35,6 +36,7 @@ both_true : (a b : Bool) → IsTrue a → IsTrue b → IsTrue (a && b)
 both_true true b h k = k
 both_true false b h k = cc
 
+-- whether the names of an expression are there: one line for each variant
 within_number : (n : ℕ) (w : ℤ) → is_expr_within n (e.Number w) ≡ true
 unfolding is_expr_within
 within_number n w = ap (is_expr_within n) (sym (e.rolls-Number w)) ∙ fold-roll-Expr Bool (names_in n) (E.Number w)
@@ -55,13 +57,16 @@ within_binary : (n : ℕ) (op : BinOp) (l r : Expr) → is_expr_within n (e.Bina
 unfolding is_expr_within
 within_binary n op l r = ap (is_expr_within n) (sym (e.rolls-Binary op l r)) ∙ fold-roll-Expr Bool (names_in n) (E.Binary op l r)
 
+-- a number names nothing
 within_or : (n : ℕ) (o : Option ℤ) (x : Expr) → IsTrue (is_expr_within n x) → IsTrue (is_expr_within n (or_number o x))
 within_or n None x h = h
 within_or n (Some w) x h = within_number n w
 
+-- an expression that keeps its names
 abbrev Stays : ℕ → Expr → Type 0
 Stays n x = IsTrue (is_expr_within n x) → IsTrue (is_expr_within n (folded_expr x))
 
+-- one level of an expression
 stays_layer : (n : ℕ) {A : Type 0} (x_of : A → Expr) (ok : (a : A) → Stays n (x_of a)) (y : E.Expr-F A) → Stays n (roll-Expr (map-Expr A Expr x_of y))
 stays_layer n x_of ok (E.Number w) = subst (Stays n) (sym (e.rolls-Number w)) (λ h. ap (is_expr_within n) (folded_is_number w) ∙ h)
 stays_layer n x_of ok (E.Cell c) = subst (Stays n) (sym (e.rolls-Cell c)) (λ h. ap (is_expr_within n) (folded_is_cell c) ∙ h)
@@ -85,6 +90,7 @@ stays_layer n x_of ok (E.Binary op l r) =
 within_folded : (n : ℕ) (x : Expr) → IsTrue (is_expr_within n x) → IsTrue (is_expr_within n (folded_expr x))
 within_folded n = ind-Expr (Stays n) (λ x y is. subst (λ (z : E.Expr-F Expr). Stays n (roll-Expr z)) is (stays_layer n (λ d. d.0) (λ d. d.1) y))
 
+-- arguments
 args_within : (n : ℕ) (xs : List Expr) → IsTrue (list_all (is_expr_within n) xs) → IsTrue (list_all (is_expr_within n) (map folded_expr xs))
 args_within n [] h = refl
 args_within n (x ∷ xs) h = both_true _ _ (within_folded n x (left_true _ _ h)) (args_within n xs (right_true (is_expr_within n x) _ h))
@@ -131,6 +137,7 @@ record Keeps (old new : Look) : Type 0 where
   within : IsTrue old.within → IsTrue new.within
   loop : IsTrue old.loop → IsTrue new.loop
 
+-- a statement that keeps its look
 abbrev Looks : ℕ → ℕ → Stmt → Type 0
 Looks n m x = Keeps (look_stmt n m x) (look_stmt n m (folded_stmt x))
 
@@ -139,14 +146,17 @@ looks : (n m : ℕ) (x : Stmt) (old new : Look) → look_stmt n m x ≡ old → 
 looks n m x old new a b k = subst (λ o. Keeps o (look_stmt n m (folded_stmt x))) (sym a) (subst (Keeps old) (sym b) k)
 
 module _ (n m : ℕ) {A : Type 0} (s_of : A → Stmt) (ok : (a : A) → Looks n m (s_of a)) where
+  -- statements of a list
   list_within : (parts : List A) → IsTrue (all_within (map (look_stmt n m) (map s_of parts))) → IsTrue (all_within (map (look_stmt n m) (map folded_stmt (map s_of parts))))
   list_within [] h = refl
   list_within (a ∷ parts) h = both_true _ _ ((ok a).within (left_true _ _ h)) (list_within parts (right_true ((look_stmt n m (s_of a)).within) _ h))
 
+  -- loops of a list
   list_loops : (parts : List A) → IsTrue (all_loops (map (look_stmt n m) (map s_of parts))) → IsTrue (all_loops (map (look_stmt n m) (map folded_stmt (map s_of parts))))
   list_loops [] h = refl
   list_loops (a ∷ parts) h = both_true _ _ ((ok a).loop (left_true _ _ h)) (list_loops parts (right_true ((look_stmt n m (s_of a)).loop) _ h))
 
+  -- one level of a statement
   looks_layer : (x : S.Stmt-F A) → Looks n m (roll-Stmt (map-Stmt A Stmt s_of x))
   looks_layer (S.Set c v) = subst (Looks n m) (sym (s.rolls-Set c v))
       (looks n m (s.Set c v) _ _ (look_set n m c v) (ap (look_stmt n m) (folded_is_set c v) ∙ look_set n m c (folded_expr v)) record {
@@ -196,6 +206,7 @@ module _ (n m : ℕ) {A : Type 0} (s_of : A → Stmt) (ok : (a : A) → Looks n 
         loop = λ h. h;
       })
 
+-- a statement
 looks_folded : (n m : ℕ) (x : Stmt) → Looks n m x
 looks_folded n m = ind-Stmt (Looks n m) (λ x y is. subst (λ (z : S.Stmt-F Stmt). Looks n m (roll-Stmt z)) is (looks_layer n m (λ d. d.0) (λ d. d.1) y))
 
@@ -204,6 +215,7 @@ block_within : (n m : ℕ) (ss : List Stmt) → IsWithin n m ss → IsWithin n m
 block_within n m [] h = refl
 block_within n m (x ∷ xs) h = both_true _ _ ((looks_folded n m x).within (left_true _ _ h)) (block_within n m xs (right_true ((look_stmt n m x).within) _ h))
 
+-- a function
 func_within : (n m : ℕ) (f : Func) → IsFuncWithin n m f → IsFuncWithin n m (folded_func f)
 func_within n m f h = record { params = h.params; body = block_within n m f.body h.body; answer = within_folded n f.answer h.answer }
 
