@@ -17,7 +17,7 @@ costs_append [] b = omega arith
 costs_append (s ∷ a) b = omega (arith, costs_append a b)
 
 -- the height changes no cost
-operator_costs : (op : BinOp) (h : ℕ) → costs_of (between op h) + costs_of (joined op h) ≡ operator_cost op
+pub operator_costs : (op : BinOp) (h : ℕ) → costs_of (between op h) + costs_of (joined op h) ≡ operator_cost op
 operator_costs Or h = refl
 operator_costs And h = refl
 operator_costs BitOr h = refl
@@ -38,7 +38,7 @@ operator_costs Div h = refl
 operator_costs Rem h = refl
 
 -- each operator of one word costs 1
-unary_cost : (op : UnOp) → cost_of (unary_instr op) ≡ 1
+pub unary_cost : (op : UnOp) → cost_of (unary_instr op) ≡ 1
 unary_cost one.Neg = refl
 unary_cost one.Not = refl
 unary_cost one.Inv = refl

@@ -1,6 +1,7 @@
 -- The code of a checked task does what the task does.
 use Rattle.std.proofs.Common.{◌≡◌, inl, ℕ, ◌+◌, ◌-◌, ◌<◌, ◌≤◌, ℤ, List, [], ◌++◌, length, replicate, refl, sym, ap, ◌∙◌, subst, arith}
-use Rattle.std.specs.Prelude.{pos, reverse, slice_index, All}
+use Rattle.std.specs.Prelude.{pos, reverse, slice_index, All, FitsSigned}
+use Rattle.std.specs.Int.{w32}
 use Rattle.std.proofs.lemmas.List.{length-replicate}
 use Rattle.mars_base.specs.declared.word.Role.{Role}
 use Rattle.mars_base.specs.declared.word.Role.TheVariants as role
@@ -20,11 +21,11 @@ use Rattle.word_code.specs.declared.code.Code.{Code}
 use Rattle.word_code.specs.declared.code.Slot.{Slot}
 use Rattle.word_code.proofs.Runs.{run_once}
 use Rattle.mc_compile.specs.Coded.{CodedTask}
-use Rattle.mc_compile.specs.Correct.{AreGiven, EndsAs, IsRight}
+use Rattle.mc_compile.specs.Correct.{AreGiven, AreLeft, KeepsWords, EndsAs, IsRight}
 use Rattle.mc_compile.specs.Whole.{translate, shapes_of}
 use Rattle.mc_compile.proofs.Expressions.{AreWords, one_step}
 use Rattle.mc_compile.proofs.Functions.{all_good}
-use Rattle.mc_compile.proofs.Memory.{same_start, same_end, start_words}
+use Rattle.mc_compile.proofs.Memory.{same_start, same_end, start_words, kept_words}
 use Rattle.mc_compile.proofs.Placed.{placed_task}
 use Rattle.mc_compile.proofs.Statements.{AreGood, Follows, runs_b}
 use Rattle.mc_compile.proofs.TypedTask.{fn_at, params_is}
@@ -90,6 +91,23 @@ module _ (t : Tree) (h : IsChecked t) where
       finish (Done vs m) r = r.3.by (Halted vs) (ends (one_step code.instrs [] c.halt c.functions _ [] vs r.0 c.stop))
       finish Broken r = r
 
+  -- the words after the body
+  abbrev Left : After → Type 0
+  Left (Done words m) = AreWords code.places words
+  Left Broken = Unit {0}
+
+  body_words : (c : CodedTask t code) (ws : List ℤ) → AreWords code.places ws → Left (all_do params (run_all params (reverse t.funcs)) t.body ws 0)
+  body_words c ws are =
+      let ks : List ℕ = replicate t.counters 0 in
+      let len : length ks ≡ t.counters = length-replicate t.counters 0 in
+      let low = counted_up_b params (length t.funcs) 0 0 h.first t.body t.counters h.body_counters in
+      words (all_do params (run_all params (reverse t.funcs)) t.body ws 0)
+      (runs_b code.instrs t.cells code.places fits params (slice_index c.firsts) (run_all params (reverse t.funcs)) (length t.funcs) h.first t.counters are_cells (functions_good c) [] t.body 0 c.halt 0 0 h.first t.counters [] ws ks 0 c.body (checked_body t h) h.body_counters are (omega (arith, len)) (omega arith) (omega arith) (inl refl) (omega arith) refl)
+    where
+      words : (o : After) → Follows code.instrs t.cells code.places fits params (slice_index c.firsts) (run_all params (reverse t.funcs)) (length t.funcs) h.first t.counters are_cells (functions_good c) [] (at 0 [] ws (replicate t.counters 0) []) 0 h.first (replicate t.counters 0) c.halt [] o → Left o
+      words (Done vs m) r = r.2
+      words Broken r = tt
+
   module _ (state ins : List ℤ) (given : AreGiven t state ins) where
     -- the words at the start
     start_is : words_at_start t.cells state ins ≡ cells.words_at_start code state ins
@@ -114,6 +132,25 @@ module _ (t : Tree) (h : IsChecked t) where
     outs_are ws =
         subst (λ cs. cells.cell_words cells.is_out (shapes_of cs) ws ≡ words_of is_out cs ws) (sym h.declared)
         (same_end is_out cells.is_out same_out refl h.globals h.locals h.global_roles h.local_roles ws)
+
+    -- and as many words as the cells have
+    left_so : (left outs : List ℤ) → instance_of t state ins ≡ Gives left outs → AreLeft t left outs
+    unfolding instance_of
+    left_so left outs e = go (all_do params (run_all params (reverse t.funcs)) t.body (words_at_start t.cells state ins) 0) (body_words (placed_task t) (words_at_start t.cells state ins) are_words) e
+      where
+        go : (o : After) → Left o → ended t.cells o ≡ Gives left outs → AreLeft t left outs
+        go (Done ws m) are f =
+            let a : words_of is_state t.cells ws ≡ left = cc in
+            let b : words_of is_out t.cells ws ≡ outs = cc in
+            let s = kept_words is_state t.cells ws (omega (arith, are.len)) are.words in
+            let u = kept_words is_out t.cells ws (omega (arith, are.len)) are.words in
+            record {
+              left_len = ap length (sym a) ∙ s.0;
+              outs_len = ap length (sym b) ∙ u.0;
+              left_words = subst (λ l. All (λ v. FitsSigned w32 v) l) a s.1;
+              outs_words = subst (λ l. All (λ v. FitsSigned w32 v) l) b u.1;
+            }
+        go Broken are f = absurd (let x : ⊥ = cc in x)
 
     -- the run from the start
     ends_as : EndsAs code state ins (instance_of t state ins)
@@ -153,3 +190,7 @@ translation_right t h = record {
   halts = λ state ins left outs cycles given y. halts_once (translate t) state ins left outs cycles (instance_of t state ins) (ends_as t h state ins given) y;
   breaks = λ state ins given y. breaks_once (translate t) state ins (instance_of t state ins) (ends_as t h state ins given) y;
 }
+
+-- an instance of a checked task keeps to words
+pub keeps_words : (t : Tree) → IsChecked t → KeepsWords t
+keeps_words t h state ins left outs given e = left_so t h state ins given left outs e

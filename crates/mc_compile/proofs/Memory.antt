@@ -136,3 +136,14 @@ pub start_words : (cells : List Cell) (state ins : List ℤ) → width_of is_sta
 start_words [] state ins s i sw iw = (refl, λ k d lt. absurd (let x : ⊥ = omega arith in x))
 start_words (c ∷ cells) state ins s i sw iw =
     start_cell_words c.role c.width (words_in cells) (width_of is_state cells) (width_of is_in cells) (words_at_start cells) (start_words cells) state ins s i sw iw
+
+-- the words of one role are as many as its cells have
+pub kept_words : (p : Role → Bool) (cells : List Cell) (ws : List ℤ) → words_in cells ≤ length ws → All IsWord ws → AreSo (width_of p cells) (words_of p cells ws)
+kept_words p [] ws le h = (refl, λ k d lt. absurd (let x : ⊥ = omega arith in x))
+kept_words p (c ∷ cells) ws le h =
+    go (p c.role) (kept_words p cells (drop c.width ws) (omega (arith, length-drop c.width ws)) (All-drop IsWord c.width ws h))
+  where
+    go : (b : Bool) → AreSo (width_of p cells) (words_of p cells (drop c.width ws))
+        → AreSo ((if b then c.width else 0) + width_of p cells) ((if b then take c.width ws else []) ++ words_of p cells (drop c.width ws))
+    go true rest = so_append c.width (width_of p cells) (take c.width ws) (words_of p cells (drop c.width ws)) (so_taken c.width ws (omega arith) h) rest
+    go false rest = so_append 0 (width_of p cells) [] (words_of p cells (drop c.width ws)) (so_zeros 0) rest

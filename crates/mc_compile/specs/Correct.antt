@@ -3,7 +3,7 @@
 use Rattle.std.specs.Prelude.{◌≡◌, ℕ, ℤ, List, length, All, FitsSigned}
 use Rattle.std.specs.Int.{w32}
 use Rattle.mc_tree.specs.Tree.{Tree}
-use Rattle.mc_tree.specs.Instance.{Outcome, Gives, Breaks as Breaking, is_in, is_state, width_of, instance_of}
+use Rattle.mc_tree.specs.Instance.{Outcome, Gives, Breaks as Breaking, is_in, is_out, is_state, width_of, instance_of}
 use Rattle.word_code.specs.Execution.{Halts, Breaks}
 use Rattle.word_code.specs.declared.code.Code.{Code}
 
@@ -13,6 +13,17 @@ pub record AreGiven (t : Tree) (state ins : List ℤ) : Type 0 where
   pub ins_len : length ins ≡ width_of is_in t.cells
   pub state_words : All (λ v. FitsSigned w32 v) state
   pub ins_words : All (λ v. FitsSigned w32 v) ins
+
+-- a state and outs as an instance gives them: again as many words as the task's cells have
+pub record AreLeft (t : Tree) (left outs : List ℤ) : Type 0 where
+  pub left_len : length left ≡ width_of is_state t.cells
+  pub outs_len : length outs ≡ width_of is_out t.cells
+  pub left_words : All (λ v. FitsSigned w32 v) left
+  pub outs_words : All (λ v. FitsSigned w32 v) outs
+
+-- each instance keeps to words, and to as many as its cells have
+abbrev pub KeepsWords : Tree → Type 0
+KeepsWords t = (state ins left outs : List ℤ) → AreGiven t state ins → instance_of t state ins ≡ Gives left outs → AreLeft t left outs
 
 -- the code halts with this state and these outs, or breaks
 abbrev pub EndsAs : Code → (state ins : List ℤ) → Outcome → Type 0
