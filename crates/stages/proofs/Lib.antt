@@ -2,6 +2,7 @@ pub mod EachFacts
 pub mod ExactFacts
 pub mod FrontFacts
 pub mod Gives
+pub mod MissingFacts
 pub mod OnceFacts
 pub mod ReadFacts
 pub mod Relations

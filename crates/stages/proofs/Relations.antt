@@ -1,7 +1,8 @@
 -- What the lemmas say of stages. No contract cites these.
-use Rattle.std.specs.Prelude.{◌≡◌, ℕ, List, Some, Result, Err}
+use Rattle.std.specs.Prelude.{◌≡◌, ◌⊎◌, ℕ, List, Some, Result, Err}
 use Rattle.mars_base.specs.Outside.{Refused}
 use Rattle.refusals.specs.declared.refusal.Refusal.{Refusal}
+use Rattle.refusals.specs.declared.refusal.Refusal.TheVariants as refusal
 use Rattle.stages.specs.Exact.{Alike, SameEnd, IsFront}
 use Rattle.stages.specs.Stage.{Stage}
 use Rattle.stages.specs.World.{Held}
@@ -32,6 +33,11 @@ KeepsOut b n = n.out ≡ b.out
 -- all refusals that the stages mean are such
 abbrev pub Refuses : {A : Type 0} → (Refusal → Type 0) → Stage A → Type 0
 Refuses {A} P stage = (b n : Held) (r : Result A Refusal) (e : Refusal) → stage.meant b n r → r ≡ Err e → P e
+
+-- from here on the stages always refuse so, or there was no memory
+pub record AlwaysRefuses {A : Type 0} (b : Held) (f : Refusal) (stage : Stage A) : Type 0 where
+  pub by_meant : (n : Held) (r : Result A Refusal) → stage.meant b n r → r ≡ Err f
+  pub by_cut : (n : Held) (e : Refusal) → stage.cut b n e → (e ≡ refusal.Memory) ⊎ (e ≡ f)
 
 -- from the same on, stages mean one answer, and what is held after is so related
 abbrev pub OnceTo : {A : Type 0} → (Held → Held → Type 0) → Stage A → Type 0

@@ -4,7 +4,7 @@ use Rattle.mars_base.specs.declared.file.File.{File}
 use Rattle.mars_base.specs.Outside.{Refused, Wrote}
 use Rattle.refusals.specs.declared.refusal.Refusal.{Refusal}
 use Rattle.refusals.specs.declared.refusal.Refusal.TheVariants as refusal
-use Rattle.stages.proofs.Relations.{Within, IsKept, Refuses, KeepsFiles, KeepsOthers}
+use Rattle.stages.proofs.Relations.{Within, IsKept, Refuses, KeepsFiles, KeepsOthers, KeepsOut}
 use Rattle.stages.specs.Files.{reading, writing, FileGives, Whole, Missing, Long}
 use Rattle.stages.specs.Stage.{Stage, Does, in_turn, judging, giving, printing}
 use Rattle.stages.specs.World.{Held}
@@ -40,6 +40,10 @@ within_giving R a kept = record { by_meant = λ b n r m. same_then R b n kept m.
 
 pub within_reading : (R : Held → Held → Type 0) (name : List ℕ) (limit : ℕ) → IsKept R → Within R (reading name limit)
 within_reading R name limit kept = record { by_meant = λ b n r m. same_then R b n kept m.0; by_cut = λ b n e m. same_then R b n kept m.0 }
+
+-- the output
+pub out_kept : IsKept KeepsOut
+out_kept = record { same = λ b. refl; along = λ b m n e f. f ∙ e }
 
 -- the files
 pub files_kept : IsKept KeepsFiles

@@ -1,0 +1,3 @@
+pub mod Helpers
+pub mod Running
+pub mod Task

@@ -1,0 +1,38 @@
+-- A task's run over the lines of the input, as a stage.
+use Rattle.std.specs.Prelude.{◌≡◌, ◌⊎◌, ℕ, List, Option, None, Result, Ok, Err, ℤ}
+use Rattle.std.specs.Io.KnownBytes.{IsAtEnd}
+use Rattle.std.specs.Option.{option_map}
+use Rattle.lines.specs.Lines.{Lines, lines_of}
+use Rattle.mc_tree.specs.Instance.{is_in, width_of}
+use Rattle.mc_tree.specs.Tree.{Tree}
+use Rattle.refusals.specs.declared.refusal.Refusal.{Refusal}
+use Rattle.refusals.specs.declared.refusal.Refusal.TheVariants as refusal
+use Rattle.stages.specs.Stage.{Stage}
+use Rattle.task_run.specs.Progress.{RanTo, RanInto}
+use Rattle.task_run.specs.Text.{Ending, Finished, BadLine, Broken}
+use Rattle.task_source.specs.Bound.{code_of}
+use Rattle.word_machine.specs.Execution.{Ran, exec}
+
+-- the lines of the input that is left, where it is told
+abbrev pub input_lines : Tree → Option (List ℕ) → Option Lines
+input_lines t left = option_map (lines_of (width_of is_in t.cells)) left
+
+-- an execution of the task's code under the bound
+abbrev pub execution : Tree → ℕ → List ℤ → List ℤ → Ran
+execution t maxt = exec (code_of t) maxt
+
+-- the answer of a run that ended so
+abbrev pub answer_of : Ending → Result (Unit {0}) Refusal
+answer_of Finished = Ok tt
+answer_of (BadLine n) = Err (refusal.BadInput n)
+answer_of Broken = Err refusal.Broken
+
+-- Runs a task over the lines of the input, each execution under the bound. It means the whole text, and where no line
+-- is bad and no instance breaks the input is read to its end. Where it is cut off a front of the text was put.
+abbrev pub running : Tree → ℕ → Stage (Unit {0})
+running t maxt = record {
+  meant = λ b n r. (ending : Ending) × (r ≡ answer_of ending) × RanTo t maxt (execution t maxt) (input_lines t b.left) ending b.out n.out
+      × (n.files ≡ b.files) × (r ≡ Ok tt → IsAtEnd n.left);
+  cut = λ b n e. RanInto t maxt (execution t maxt) (input_lines t b.left) b.out n.out
+      × (n.files ≡ b.files) × ((e ≡ refusal.Memory) ⊎ ((e ≡ refusal.ReadFault None) ⊎ (e ≡ refusal.WriteFault None)));
+}

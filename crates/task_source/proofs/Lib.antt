@@ -1,0 +1,2 @@
+pub mod BuiltFacts
+pub mod Thin
