@@ -1,6 +1,4 @@
-pub mod Answers
+pub mod Asked
 pub mod Command
-pub mod Reading
-pub mod Source
-pub mod Status
-pub mod Verdict
+pub mod Helpers
+pub mod Replies

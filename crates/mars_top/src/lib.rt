@@ -1,12 +1,9 @@
 //! The program `mars` as one call over the traits of the outside.
 #![tactic(auto)]
 
-pub mod complain;
-pub mod execute;
-pub mod refusal;
-pub mod source;
-pub mod task;
+pub mod asked;
 pub mod top;
 
-pub use refusal::{Fault, Refusal};
+pub use refusals::{Fault, ImageBad, Place, ProjectKind, Refusal, Section};
+pub use task_command::run_task;
 pub use top::mars;

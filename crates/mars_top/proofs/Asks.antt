@@ -1,0 +1,71 @@
+-- A command as it was given, and what holds of every command.
+use Rattle.std.proofs.Common.{◌≡◌, ◌⊎◌, inl, inr, ◌∙◌, ap, refl, sym, subst, ℕ, Option, None, Some, Result, Ok, Err, arith}
+use Rattle.mars_top.specs.Asked.{plain_asked}
+use Rattle.mars_top.specs.Command.{Command, Task, stage_of}
+use Rattle.mars_top.specs.Helpers.{Acts}
+use Rattle.mars_top.specs.Replies.{Replies}
+use Rattle.mars_top.specs.declared.asked.Asked.{Asked}
+use Rattle.refusals.proofs.CauseFacts.{caused_not_usage}
+use Rattle.refusals.specs.Causes.{Counts, Caused}
+use Rattle.refusals.specs.Said.{Said}
+use Rattle.refusals.specs.Status.{status_of, status_of_result}
+use Rattle.refusals.specs.declared.refusal.Refusal.{Refusal}
+use Rattle.stages.specs.Stage.{Does}
+use Rattle.stages.specs.World.{Held, World}
+use Rattle.stages.proofs.ExactFacts.{exact}
+use Rattle.stages.proofs.Relations as fact
+use Rattle.stages.proofs.Turns.{fails}
+use Rattle.task_command.proofs.TaskFacts.{lasts_tasking, refuses_tasking}
+
+-- what is performed for known words
+pub acts_as : (given known : Asked) (b n : Held) (c d : Counts) (r : Result (Unit {0}) Refusal) → given ≡ known → Acts (plain_asked known) b n c d r → Acts (plain_asked given) b n c d r
+acts_as given known b n c d r is acts = subst (λ (k : Asked). Acts (plain_asked k) b n c d r) (sym is) acts
+
+-- every command is sound
+lasts : (command : Command) → fact.Lasts (stage_of command)
+lasts (Task file) = lasts_tasking file
+
+-- no command answers that the words are none
+abbrev NoUsage : Refusal → Type 0
+NoUsage e = status_of e ≡ 2 → ⊥
+
+never_meant : (command : Command) → fact.Refuses NoUsage (stage_of command)
+never_meant (Task file) = refuses_tasking NoUsage file (λ e. omega (arith, e)) (λ e. omega (arith, e)) (λ f e. omega (arith, e)) (λ n e. omega (arith, e)) (λ e. omega (arith, e))
+
+never_two : (command : Command) (b n : Held) (c d : Counts) (r : Result (Unit {0}) Refusal) → Does (stage_of command) b n c d r → status_of_result r ≡ 2 → ⊥
+never_two command b n c d (Ok u) does is = omega (arith, is)
+never_two command b n c d (Err e) does is = by does.how
+  where
+    by : (stage_of command).meant b n (Err e) ⊎ ((f : Refusal) × (fails (Unit {0}) e ≡ Err f) × (stage_of command).cut b n f × Caused c d f) → ⊥
+    by (inl meant) = never_meant command b n (Err e) e meant refl is
+    by (inr cut) = let same : e ≡ cut.0 = (let h = cut.1 in cc) in caused_not_usage c d cut.0 cut.3 (ap status_of (sym same) ∙ is)
+
+pub usage_only : (command : Option Command) (before now : World) (status : ℕ) → Replies command before now status → status ≡ 2 → command ≡ None
+usage_only None before now status replies two = refl
+usage_only (Some command) before now status replies two = absurd (never_two command before.held now.held before.counts now.counts replies.answer replies.does (sym replies.status_is ∙ two))
+
+pub usage_always : (command : Option Command) (before now : World) (status : ℕ) → Replies command before now status → command ≡ None → status ≡ 2
+usage_always None before now status replies none = replies.status_is
+usage_always (Some command) before now status replies none = absurd (cc)
+
+-- a call that performed what the words ask for, and said its answer
+replied : (command : Option Command) (before now : World) (status : ℕ) (answer : Result (Unit {0}) Refusal) → status ≡ status_of_result answer → Acts command before.held now.held before.counts now.counts answer
+    → Said before.err now.err before.errors now.errors answer → Replies command before now status
+replied None before now status answer is acts said = record {
+  status_is = is ∙ ap status_of_result acts.0;
+  held_stays = acts.1;
+  counts_stay = acts.2;
+  said = subst (Said before.err now.err before.errors now.errors) acts.0 said;
+}
+replied (Some command) before now status answer is acts said = record {
+  answer = answer;
+  status_is = is;
+  does = acts.0;
+  exact = exact (stage_of command) (lasts command) before.held now.held before.counts now.counts answer acts.0;
+  promises = acts.1;
+  said = said;
+}
+
+pub performed : (words asked : Option Command) (before now : World) (status : ℕ) (answer : Result (Unit {0}) Refusal) → asked ≡ words → status ≡ status_of_result answer → Acts asked before.held now.held before.counts now.counts answer
+    → Said before.err now.err before.errors now.errors answer → Replies words before now status
+performed words asked before now status answer same is acts said = subst (λ (w : Option Command). Replies w before now status) same (replied asked before now status answer is acts said)

@@ -1,0 +1,6 @@
+use Rattle.mars_top.proofs.Asks.{acts_as}
+use Rattle.mars_top.specs.declared.asked.Asked.TheVariants as asked
+use Rattle.mars_top.proofs.top.perform.Goals as goal
+
+pub returns-in-Task : goal.returns-in-Task
+returns-in-Task g c = acts_as c.args.command (asked.Task c.in-Task.file) _ _ _ _ _ c.in-Task.is (c.run_task.ensures.answer, c.run_task.ensures.promises)
