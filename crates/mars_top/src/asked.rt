@@ -9,9 +9,7 @@ pub enum Asked<'a> {
     /// Words that are no command.
     Nothing,
     /// `task FILE`.
-    Task {
-        file: &'a str,
-    },
+    Task { file: &'a str },
 }
 
 /// The command of the words; Nothing exactly where they are none.

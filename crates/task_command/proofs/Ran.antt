@@ -1,5 +1,5 @@
 -- The call that runs lines does the stage.
-use Rattle.std.proofs.Common.{◌≡◌, ◌⊎◌, inl, inr, ℕ, List, Option, Some, None, Result, Ok, Err, refl, sym, ap, ◌∙◌, subst}
+use Rattle.std.proofs.Common.{◌≡◌, inl, inr, ℕ, None, Result, Ok, Err, refl, subst}
 use Rattle.std.specs.Io.KnownBytes.{IsAtEnd}
 use Rattle.mars_base.specs.Causes.{Rose}
 use Rattle.mc_tree.specs.Tree.{Tree}
@@ -16,8 +16,8 @@ use Rattle.task_run.specs.declared.fault.RunFault.{RunFault}
 use Rattle.task_run.specs.declared.fault.RunFault.TheVariants as run
 use Rattle.task_run.proofs.Steps.{into_nothing}
 use Rattle.task_source.specs.Bound.{code_of}
-use Rattle.word_machine.specs.Execution.{exec}
-use Rattle.word_machine.specs.declared.code.Code.{Code}
+use Rattle.word_code.specs.Execution.{exec}
+use Rattle.word_code.specs.declared.code.Code.{Code}
 
 abbrev pub refused : Result (Unit {0}) RunFault → Result (Unit {0}) Refusal
 refused (Ok u) = Ok u

@@ -1,5 +1,5 @@
 -- What holds of every run of a task over the lines of the input.
-use Rattle.std.proofs.Common.{◌≡◌, ◌⊎◌, inl, inr, ℕ, List, Option, Some, None, Result, Ok, Err, sym, ap, ◌∙◌, subst}
+use Rattle.std.proofs.Common.{◌≡◌, ℕ, List, Option, Some, None, Result, Err, sym, ap, ◌∙◌, subst}
 use Rattle.std.specs.Io.KnownBytes.{append_known}
 use Rattle.lines.specs.Lines.{lines_of}
 use Rattle.mars_base.specs.declared.file.File.{File}

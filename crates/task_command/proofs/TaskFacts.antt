@@ -1,8 +1,7 @@
 -- What holds of every run of the command `task`.
-use Rattle.std.proofs.Common.{◌≡◌, ◌⊎◌, inl, inr, ℕ, List, Option, Some, None, Result, Ok, Err, refl, sym, ap, ◌∙◌, subst, arith}
+use Rattle.std.proofs.Common.{◌≡◌, ◌⊎◌, inl, inr, ℕ, List, Some, None, Result, Ok, Err, sym, ap, ◌∙◌, subst, arith}
 use Rattle.std.specs.Io.KnownBytes.{IsAtEnd}
 use Rattle.mars_base.specs.Causes.{Rose}
-use Rattle.mars_base.specs.declared.file.File.{File}
 use Rattle.refusals.specs.Causes.{Counts, Caused}
 use Rattle.refusals.specs.Status.{status_of, status_of_result}
 use Rattle.refusals.specs.declared.fault.Fault.{Fault}
@@ -19,7 +18,7 @@ use Rattle.task_command.specs.Running.{running, answer_of}
 use Rattle.task_command.specs.Task.{tasking, TaskPromises}
 use Rattle.task_command.proofs.RunFacts.{files_running, lasts_running, refuses_running}
 use Rattle.task_run.specs.Text.{Ending, Finished, BadLine, Broken}
-use Rattle.task_source.specs.Built.{Built, built}
+use Rattle.task_source.specs.Built.{built}
 use Rattle.task_source.proofs.BuiltFacts.{kept_built, missing_built, refuses_built, passes_built}
 
 pub lasts_tasking : (file : List ℕ) → Lasts (tasking file)

@@ -11,7 +11,8 @@ use Rattle.stages.specs.Stage.{Stage}
 use Rattle.task_run.specs.Progress.{RanTo, RanInto}
 use Rattle.task_run.specs.Text.{Ending, Finished, BadLine, Broken}
 use Rattle.task_source.specs.Bound.{code_of}
-use Rattle.word_machine.specs.Execution.{Ran, exec}
+use Rattle.processor.specs.Results.{Ran}
+use Rattle.word_code.specs.Execution.{exec}
 
 -- the lines of the input that is left, where it is told
 abbrev pub input_lines : Tree → Option (List ℕ) → Option Lines

@@ -5,7 +5,7 @@ use Rattle.mc_compile.specs.Whole.{translate}
 use Rattle.mc_tree.specs.Tree.{Tree}
 use Rattle.refusals.specs.declared.refusal.Refusal.{Refusal}
 use Rattle.stages.specs.Stage.{Stage, judging}
-use Rattle.word_machine.specs.declared.code.Code.{Code}
+use Rattle.word_code.specs.declared.code.Code.{Code}
 
 -- the code that is run for a task: its translation
 abbrev pub code_of : Tree → Code

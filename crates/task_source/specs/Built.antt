@@ -8,8 +8,8 @@ use Rattle.task_run.specs.Follows.{RunsAs}
 use Rattle.task_source.specs.Bound.{code_of, bounding}
 use Rattle.task_source.specs.Source.{source}
 use Rattle.task_source.specs.declared.built.BuiltTask.{BuiltTask}
-use Rattle.word_machine.specs.Cells as machine
-use Rattle.word_machine.specs.Execution.{exec}
+use Rattle.word_code.specs.Cells as machine
+use Rattle.word_code.specs.Execution.{exec}
 
 -- in plain form: its tree and its bound
 pub record Built : Type 0 where

@@ -11,7 +11,7 @@ use mc_tree::Task;
 use refusals::Refusal;
 use std::alloc::Global;
 use thin_code::{bound, compile};
-use word_machine::Verified;
+use word_code::Verified;
 
 /// A task, its code, and the bound of its code.
 #[derive(Drop)]

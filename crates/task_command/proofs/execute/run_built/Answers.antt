@@ -1,4 +1,4 @@
-use Rattle.std.proofs.Common.{◌≡◌, sym, subst, refl, ap, List, ℕ, Option, Ok, Err, arith}
+use Rattle.std.proofs.Common.{sym, subst, refl, Err, arith}
 use Rattle.mc_tree.specs.Plain.{plain_task}
 use Rattle.refusals.specs.declared.refusal.Refusal.{Refusal}
 use Rattle.stages.specs.Stage.{Does}

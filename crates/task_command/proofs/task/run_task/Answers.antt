@@ -1,4 +1,3 @@
-use Rattle.std.proofs.Common.{sym, refl}
 use Rattle.stages.proofs.Turns.{stopped, went}
 use Rattle.task_command.specs.Running.{running}
 use Rattle.task_command.proofs.TaskFacts.{promises}
@@ -15,5 +14,5 @@ pub returns : goal.returns
 returns g c =
     let read = c.in-Ok.ensures {u = tt} in
     let does = went (built c.args.file.now) (λ (b : Built). running b.tree b.maxt) (read.answer (g.I.Source.left c.args.input.now) (g.O.Sink.holds c.args.out.now) (g.I.Source.faults c.args.input.now) (g.O.Sink.faults c.args.out.now))
-          (c.run_built.ensures.answer (g.H.Shelf.holds c.read_task.new.shelf) (g.H.Shelf.failed_reads c.read_task.new.shelf) (g.H.Shelf.failed_writes c.read_task.new.shelf)) in
+    (c.run_built.ensures.answer (g.H.Shelf.holds c.read_task.new.shelf) (g.H.Shelf.failed_reads c.read_task.new.shelf) (g.H.Shelf.failed_writes c.read_task.new.shelf)) in
     record { answer = does; promises = promises c.args.file.now _ _ _ _ _ read.writes does }

@@ -1,16 +1,15 @@
-use Rattle.std.proofs.Common.{◌≡◌, ◌⊎◌, inl, inr, ◌∙◌, ap, refl, subst, List, ℕ, Ok, Err}
+use Rattle.std.proofs.Common.{inl, inr, ◌∙◌, ap, refl, List, ℕ, Ok, Err}
 use Rattle.mc_compile.specs.Cost.{costs_of}
 use Rattle.mc_tree.specs.Plain.{plain_task}
 use Rattle.mc_tree.specs.Tree.{Tree}
-use Rattle.refusals.specs.declared.refusal.Refusal.{Refusal}
 use Rattle.refusals.specs.declared.refusal.Refusal.TheVariants as refusal
 use Rattle.stages.specs.Stage.{Stage, giving, in_turn}
 use Rattle.stages.proofs.Turns.{stopped, went, judged, gave}
 use Rattle.task_source.specs.Built.{Built}
 use Rattle.task_source.specs.Source.{source}
-use Rattle.task_source.specs.Bound.{BoundGives, Bound, bounding, code_of}
+use Rattle.task_source.specs.Bound.{BoundGives, Bound, bounding}
 use Rattle.task_source.proofs.built.read_task.Goals as goal
-use Rattle.word_machine.specs.declared.code.Code.{Code}
+use Rattle.word_code.specs.declared.code.Code.{Code}
 
 abbrev bound_it : List ℕ → Tree → Stage Built
 bound_it file t = in_turn (bounding file t) (λ maxt. giving (record { tree = t; maxt = maxt }))

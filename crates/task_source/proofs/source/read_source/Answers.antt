@@ -1,7 +1,5 @@
 use Rattle.std.proofs.Common.{◌≡◌, ◌⊎◌, subst, List, ℕ, Err}
 use Rattle.mc_tree.specs.Plain.{plain_task}
-use Rattle.mc_tree.specs.Tree.{Tree}
-use Rattle.refusals.specs.declared.refusal.Refusal.{Refusal}
 use Rattle.refusals.specs.declared.refusal.Refusal.TheVariants as refusal
 use Rattle.stages.specs.Files.{reading}
 use Rattle.stages.specs.Stage.{given, judging}

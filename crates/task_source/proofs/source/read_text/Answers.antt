@@ -1,6 +1,5 @@
-use Rattle.std.proofs.Common.{inl, inr, ◌∙◌, ap, refl, Ok, Err}
+use Rattle.std.proofs.Common.{inl, ◌∙◌, ap, refl, Err}
 use Rattle.refusals.specs.declared.fault.Fault.TheVariants as fault
-use Rattle.refusals.specs.declared.refusal.Refusal.{Refusal}
 use Rattle.refusals.specs.declared.refusal.Refusal.TheVariants as refusal
 use Rattle.mc_tree.specs.Plain.{plain_task}
 use Rattle.task_source.specs.Source.{Task, NotBuilt}
