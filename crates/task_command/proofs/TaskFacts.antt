@@ -2,6 +2,7 @@
 use Rattle.std.proofs.Common.{◌≡◌, ◌⊎◌, inl, inr, ℕ, List, Some, None, Result, Ok, Err, sym, ap, ◌∙◌, subst, arith}
 use Rattle.std.specs.Io.KnownBytes.{IsAtEnd}
 use Rattle.mars_base.specs.Causes.{Rose}
+use Rattle.mc_tree.specs.Tree.{Tree}
 use Rattle.refusals.specs.Causes.{Counts, Caused}
 use Rattle.refusals.specs.Status.{status_of, status_of_result}
 use Rattle.refusals.specs.declared.fault.Fault.{Fault}
@@ -14,7 +15,7 @@ use Rattle.stages.proofs.Relations.{Within, Refuses, KeepsFiles, KeepsOut, Lasts
 use Rattle.stages.proofs.SoundFacts.{lasts_turn}
 use Rattle.stages.proofs.Turns.{not_err}
 use Rattle.stages.proofs.WithinFacts.{within_turn, within_does, files_kept, out_kept, refuses_turn}
-use Rattle.task_command.specs.Running.{running, answer_of}
+use Rattle.task_command.specs.Running.{running, answer_of, Stops, NoMemory, ReadFailed, PutFailed}
 use Rattle.task_command.specs.Task.{tasking, TaskPromises}
 use Rattle.task_command.proofs.RunFacts.{files_running, lasts_running, refuses_running}
 use Rattle.task_run.specs.Text.{Ending, Finished, BadLine, Broken}
@@ -47,10 +48,10 @@ unread_ending Finished r is six = let h = ap status_of_result is in omega (arith
 unread_ending (BadLine n) r is six = let h = ap status_of_result is in omega (arith, h, six)
 unread_ending Broken r is six = let h = ap status_of_result is in omega (arith, h, six)
 
-unread_cut : (c d : Counts) (e : Refusal) → (e ≡ refusal.Memory) ⊎ ((e ≡ refusal.ReadFault None) ⊎ (e ≡ refusal.WriteFault None)) → status_of e ≡ 6 → Caused c d e → Rose c.input d.input
-unread_cut c d e (inl is) six caused = absurd (let h = ap status_of is in omega (arith, h, six))
-unread_cut c d e (inr (inl is)) six caused = subst (Caused c d) is caused
-unread_cut c d e (inr (inr is)) six caused = absurd (let h = ap status_of is in omega (arith, h, six))
+unread_cut : (t : Tree) (b n : Held) (c d : Counts) (e : Refusal) → Stops t b n e → status_of e ≡ 6 → Caused c d e → Rose c.input d.input
+unread_cut t b n c d e (NoMemory is) six caused = absurd (let h = ap status_of is in omega (arith, h, six))
+unread_cut t b n c d e (ReadFailed is answered) six caused = subst (Caused c d) is caused
+unread_cut t b n c d e (PutFailed is) six caused = absurd (let h = ap status_of is in omega (arith, h, six))
 
 unread_of : (file : List ℕ) (b n : Held) (c d : Counts) (r : Result (Unit {0}) Refusal) → Does (tasking file) b n c d r → status_of_result r ≡ 6 → Rose c.input d.input ⊎ (n.out ≡ b.out)
 unread_of file b n c d r does six = by does.how
@@ -62,7 +63,7 @@ unread_of file b n c d r does six = by does.how
     by (inl (inl stop)) = inr (kept.by_meant b n (Err stop.0) stop.1)
     by (inl (inr go)) = absurd (unread_ending go.3.0 r go.3.1 six)
     by (inr (e, is, inl cut, caused)) = inr (kept.by_cut b n e cut)
-    by (inr (e, is, inr go, caused)) = inl (unread_cut c d e go.3.2 (sym (ap status_of_result is) ∙ six) caused)
+    by (inr (e, is, inr go, caused)) = inl (unread_cut go.0.tree go.1 n c d e go.3.2 (sym (ap status_of_result is) ∙ six) caused)
 
 -- whatever the objects tell
 pub promises : (file : List ℕ) (b n : Held) (c d : Counts) (r : Result (Unit {0}) Refusal) → d.writes ≡ c.writes → Does (tasking file) b n c d r → TaskPromises file b n c d r

@@ -4,12 +4,11 @@ use Rattle.mc_tree.specs.Instance.{is_in, is_out, is_state, width_of}
 use Rattle.mc_tree.specs.Plain.{plain_task}
 use Rattle.mc_tree.specs.Tree.{Tree}
 use Rattle.stages.specs.Stage.{Stage, in_turn, giving}
-use Rattle.task_run.specs.Follows.{RunsAs}
+use Rattle.mc_compile.specs.Follows.{Follows}
 use Rattle.task_source.specs.Bound.{code_of, bounding}
 use Rattle.task_source.specs.Source.{source}
 use Rattle.task_source.specs.declared.built.BuiltTask.{BuiltTask}
 use Rattle.word_code.specs.Cells as machine
-use Rattle.word_code.specs.Execution.{exec}
 
 -- in plain form: its tree and its bound
 pub record Built : Type 0 where
@@ -22,7 +21,7 @@ plain_built b = record { tree = plain_task b.task; maxt = b.maxt }
 -- the code is the task's, takes and gives as many words, and does under the bound what the tree means
 pub record IsBuilt (b : BuiltTask) : Type 0 where
   pub is_code : b.code ≡ code_of (plain_task b.task)
-  pub follows : RunsAs (plain_task b.task) b.maxt (exec b.code b.maxt)
+  pub follows : Follows (plain_task b.task) b.code b.maxt
   pub small : b.maxt < 2 ^ 31
   pub cells : length (plain_task b.task).cells < 2 ^ 40
   pub few : width_of is_out (plain_task b.task).cells ≤ 256

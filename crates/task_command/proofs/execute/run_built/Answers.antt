@@ -20,5 +20,5 @@ returns g c = record {
       let e = c.in-Err.ensures {u = tt} in
       let later : Later before now = record { in_reads = omega arith; in_writes = omega arith; in_input = e.later_in; in_output = e.later_out } in
       subst (λ (r : Refusal). Does (running t maxt) b n before now (Err r)) (sym c.refused_run.ensures)
-      (ran t c.args.built.now.code maxt b n before now (Err c.in-Err.fault) c.requires.is_code e.answer refl e.at_end e.read e.write later);
+      (ran t c.args.built.now.code maxt b n before now (Err c.in-Err.fault) c.requires.is_code e.answer refl e.at_end e.answered e.read e.write later);
 }
