@@ -131,8 +131,9 @@ fn emit_stmt(code: &mut Vec<Slot>, task: &Task, firsts: &[u16], stmt: &Stmt)
             bound,
             loops,
         } => {
-            put(code, Instr::CZero(*counter), 0);
-            emit_loops(code, task, firsts, *counter, *bound, loops.as_slice());
+            let (total, most) = (*counter, *bound);
+            put(code, Instr::CZero(total), 0);
+            emit_loops(code, task, firsts, total, most, loops.as_slice());
         }
     }
 }
@@ -199,7 +200,8 @@ fn emit_loop(
     emit_expr(code, task.cells.as_slice(), test, 0);
     let leave = next(code);
     put(code, Instr::Jz(0), 1);
-    put(code, Instr::CInc { counter, bound }, 0);
+    let turn = Instr::CInc { counter, bound };
+    put(code, turn, 0);
     emit_block(code, task, firsts, body);
     put(code, Instr::Jmp(head), 0);
     let end = next(code);
@@ -269,21 +271,19 @@ fn emit_turns(
     ensures { GrowsLs code.old code.new task.now firsts.now total most (OneLoop counter bound (plain_expr task.now.cells test.now) (plain_list task.now.cells body.now) NoLoop) }
 {
     put(code, Instr::CZero(counter), 0);
-    let head = next(code);
+    let start = next(code);
     emit_expr(code, task.cells.as_slice(), test, 0);
     let leave = next(code);
     put(code, Instr::Jz(0), 1);
-    put(code, Instr::CInc { counter, bound }, 0);
-    put(
-        code,
-        Instr::CInc {
-            counter: total,
-            bound: most,
-        },
-        0,
-    );
+    let own = Instr::CInc { counter, bound };
+    let all = Instr::CInc {
+        counter: total,
+        bound: most,
+    };
+    put(code, own, 0);
+    put(code, all, 0);
     emit_block(code, task, firsts, body);
-    put(code, Instr::Jmp(head), 0);
+    put(code, Instr::Jmp(start), 0);
     let end = next(code);
     mend(code, leave, Instr::Jz(end), 1);
 }

@@ -31,7 +31,7 @@ pub emit_turns-returns : goal.emit_turns-returns
 emit_turns-returns t c =
     let task = c.args.task.now in
     let is = ap (λ cs. OneLoop c.args.counter c.args.bound (plain_expr cs c.args.test.now) (plain_list task.cells c.args.body.now) NoLoop) (sym c.as_slice.ensures) in
-    turns_grows (slice_index c.args.firsts.now) (params_of task) _ _ _ _ _ _ _ _ _ c.args.total c.args.most c.args.counter c.args.bound _ _ _ _ _ _ _ is c.put.ensures c.next-head.ensures c.emit_expr.ensures c.next-leave.ensures c.put-2.ensures c.put-3.ensures c.put-4.ensures c.emit_block.ensures c.put-5.ensures c.next-end.ensures c.mend.ensures
+    turns_grows (slice_index c.args.firsts.now) (params_of task) _ _ _ _ _ _ _ _ _ c.args.total c.args.most c.args.counter c.args.bound _ _ _ _ _ _ _ is c.put.ensures c.next-start.ensures c.emit_expr.ensures c.next-leave.ensures c.put-2.ensures c.put-3.ensures c.put-4.ensures c.emit_block.ensures c.put-5.ensures c.next-end.ensures c.mend.ensures
 
 pub emit_block-emit_stmt-requires : goal.emit_block-emit_stmt-requires
 emit_block-emit_stmt-requires t c =
