@@ -27,5 +27,5 @@ pub record IsAble (a : Action) (pc height : ℕ) (r : Registers) : Type 0 where
 -- the registers before and after an action, by how it went
 abbrev pub Acts : Action → ℕ → ℕ → Registers → Went → Registers → Type 0
 Acts a pc height old (went.On next) new = act_on a (state_of pc height old) ≡ Goes (state_of next (height - pops_of a + pushes_of a) new)
-Acts a pc height old went.Ended new = (act_on a (state_of pc height old) ≡ Ends (Halted old.words)) × (new ≡ old)
-Acts a pc height old went.Broke new = (act_on a (state_of pc height old) ≡ Ends Broken) × (length new.words ≡ length old.words)
+Acts a pc height old went.Halted new = (act_on a (state_of pc height old) ≡ Ends (Halted old.words)) × (new ≡ old)
+Acts a pc height old went.Broken new = (act_on a (state_of pc height old) ≡ Ends Broken) × (length new.words ≡ length old.words)

@@ -63,8 +63,8 @@ impl Machine {
             }
             match self.registers.act(pc, usize::from(slot.height), slot.instr) {
                 Went::On(next) => pc = next,
-                Went::Ended => return self.stand(pc, spent, Turn::Halted),
-                Went::Broke => return self.stand(pc, spent, Turn::Broken),
+                Went::Halted => return self.stand(pc, spent, Turn::Halted),
+                Went::Broken => return self.stand(pc, spent, Turn::Broken),
             }
             cycles = spent;
         }

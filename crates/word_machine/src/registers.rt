@@ -28,9 +28,9 @@ pub enum Went {
     /// On to the instruction at this number.
     On(usize),
     /// It ended the execution.
-    Ended,
+    Halted,
     /// It broke the execution.
-    Broke,
+    Broken,
 }
 
 impl Registers {
@@ -68,7 +68,7 @@ impl Registers {
             Instr::CInc { counter, bound } => self.count(pc, height, counter, bound),
             Instr::Call(target) => self.call(pc, height, target),
             Instr::Ret => self.go_back(pc, height),
-            Instr::Halt => Went::Ended,
+            Instr::Halt => Went::Halted,
         }
     }
 
@@ -107,7 +107,7 @@ impl Registers {
         ensures { Acts (LoadsAt place width) pc height self.old result self.new }
     {
         let Some(at) = element(place, width, self.stack.top(height)) else {
-            return Went::Broke;
+            return Went::Broken;
         };
         let word = self.words.get(at);
         self.stack.put(height - 1, word);
@@ -121,7 +121,7 @@ impl Registers {
     {
         let word = self.stack.top(height);
         let Some(at) = element(place, width, self.stack.top(height - 1)) else {
-            return Went::Broke;
+            return Went::Broken;
         };
         self.words.set(at, word);
         Went::On(pc + 1)
@@ -135,7 +135,7 @@ impl Registers {
         let right = self.stack.top(height);
         let left = self.stack.top(height - 1);
         let Some(word) = binary(op, left, right) else {
-            return Went::Broke;
+            return Went::Broken;
         };
         self.stack.put(height - 2, word);
         Went::On(pc + 1)
@@ -179,7 +179,7 @@ impl Registers {
     {
         let count = self.counters.get(usize::from(counter));
         if count >= bound {
-            return Went::Broke;
+            return Went::Broken;
         }
         self.counters.set(usize::from(counter), count + 1);
         Went::On(pc + 1)

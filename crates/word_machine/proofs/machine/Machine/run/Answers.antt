@@ -13,20 +13,20 @@ pub act-requires : goal.act-requires
 act-requires c =
     able c.args.code.now c.loop-slot.pc c.loop-slot.self.registers c.slot_at-slot.result c.slot_at-slot.ensures c.from.result c.from.ensures c.requires.verified c.loop-slot.invariant.course
 
-pub returns-in-Ended : goal.returns-in-Ended
-returns-in-Ended c =
-    let e = c.in-Ended.ensures {u = tt} in
-    stands_halted c.args.code.now c.args.limit c.args.self.now c.stand-in-Ended.new.self c.stand-in-Ended.result _ c.loop-slot.self.registers
-    (c.stand-in-Ended.ensures.registers ∙ e.1) c.stand-in-Ended.ensures.cycles c.stand-in-Ended.ensures.turn c.loop-slot.invariant.course.places
+pub returns-in-Halted : goal.returns-in-Halted
+returns-in-Halted c =
+    let e = c.in-Halted.ensures {u = tt} in
+    stands_halted c.args.code.now c.args.limit c.args.self.now c.stand-in-Halted.new.self c.stand-in-Halted.result _ c.loop-slot.self.registers
+    (c.stand-in-Halted.ensures.registers ∙ e.1) c.stand-in-Halted.ensures.cycles c.stand-in-Halted.ensures.turn c.loop-slot.invariant.course.places
     (λ top le. c.loop-slot.invariant.same top le
     ∙ is_halted c.args.code.now c.loop-slot.pc c.loop-slot.self.registers c.slot_at-slot.result c.slot_at-slot.ensures c.from.result c.from.ensures c.requires.verified c.loop-slot.invariant.course
     c.args.limit c.loop-slot.cycles c.cost.result c.cost.ensures c.if-spent-limit.false e.0 top le)
 
-pub returns-in-Broke : goal.returns-in-Broke
-returns-in-Broke c =
-    let e = c.in-Broke.ensures {u = tt} in
-    stands_broken c.args.code.now c.args.limit c.args.self.now c.stand-in-Broke.new.self c.stand-in-Broke.result _ c.act.new.self
-    c.stand-in-Broke.ensures.registers c.stand-in-Broke.ensures.cycles c.stand-in-Broke.ensures.turn (e.1 ∙ c.loop-slot.invariant.course.places)
+pub returns-in-Broken : goal.returns-in-Broken
+returns-in-Broken c =
+    let e = c.in-Broken.ensures {u = tt} in
+    stands_broken c.args.code.now c.args.limit c.args.self.now c.stand-in-Broken.new.self c.stand-in-Broken.result _ c.act.new.self
+    c.stand-in-Broken.ensures.registers c.stand-in-Broken.ensures.cycles c.stand-in-Broken.ensures.turn (e.1 ∙ c.loop-slot.invariant.course.places)
     (λ top le. c.loop-slot.invariant.same top le
     ∙ is_broken c.args.code.now c.loop-slot.pc c.loop-slot.self.registers c.slot_at-slot.result c.slot_at-slot.ensures c.from.result c.from.ensures c.requires.verified c.loop-slot.invariant.course
     c.args.limit c.loop-slot.cycles c.cost.result c.cost.ensures c.if-spent-limit.false e.0 top le)
