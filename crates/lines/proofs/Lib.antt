@@ -1,3 +1,4 @@
+pub mod Digits
 pub mod Feeds
 pub mod Fits
 pub mod Gather

@@ -1,11 +1,11 @@
 //! Output text, gathered until it is sent.
-ghost use Rattle.std.specs.Prelude.{◌≡◌, ◌+◌, ◌≤◌, ◌++◌, [], IfOk, IsTrue, ◌↔◌, length};
+ghost use Rattle.std.specs.Prelude.{◌≡◌, ◌+◌, ◌<◌, ◌≤◌, ◌++◌, ◌∷◌, [], IfOk, IsTrue, ◌↔◌, length, decimal};
 ghost use Rattle.lines.specs.Gathered.{Writes};
 ghost use Rattle.std.specs.Fmt.{signed_decimal};
 ghost use Rattle.mars_base.specs.Causes.{HasCause};
 ghost use Rattle.mars_base.specs.Outside.{Puts};
 
-use itoa::Buffer;
+use itoa::{Buffer, write_digits};
 use mars_base::{Memory, Sink, SinkFault};
 use std::alloc::Global;
 use std::marker::Model;
@@ -13,20 +13,22 @@ use std::marker::Model;
 // How many bytes a buffer holds.
 const ROOM: usize = 4_096;
 
-/// Up to 4,096 bytes of text that wait to be sent, seen as their list.
+/// Up to 4,096 bytes of text that wait to be sent, seen as their list. Numbers are formatted in their
+/// place among them.
 #[derive(Drop)]
 pub struct LineBuf {
     bytes: Vec<u8>,
+    used: usize,
 }
 
 impl Model for LineBuf {
-    ghost use Rattle.std.specs.Prelude.{◌≤◌, List, ℕ, vec_len, vec_capacity};
+    ghost use Rattle.std.specs.Prelude.{◌≡◌, ◌≤◌, List, ℕ, take, length};
 
     ghost Value = { List ℕ };
 
-    ghost view = { λ b. b.bytes.items };
+    ghost view = { λ b. take b.used b.bytes.items };
 
-    ghost invariant = { λ b. (vec_len b.bytes ≤ 4096) × (4096 ≤ vec_capacity b.bytes) };
+    ghost invariant = { λ b. (length b.bytes.items ≡ 4096) × (b.used ≤ 4096) };
 }
 
 impl LineBuf {
@@ -35,7 +37,8 @@ impl LineBuf {
         ensures { IfOk result (λ b. b ≡ []) }
     {
         Ok(LineBuf {
-            bytes: Vec::with_capacity(alloc, ROOM)?,
+            bytes: vec![in alloc; 0u8; ROOM]?,
+            used: 0,
         })
     }
 
@@ -43,14 +46,14 @@ impl LineBuf {
     pub fn room(&self) -> usize
         ensures { result + length self.now ≡ 4096 }
     {
-        ROOM - self.bytes.len()
+        ROOM - self.used
     }
 
     /// Whether nothing waits.
     pub fn is_empty(&self) -> bool
         ensures { IsTrue result ↔ (self.now ≡ []) }
     {
-        self.bytes.is_empty()
+        self.used == 0
     }
 
     /// Appends bytes that fit.
@@ -58,16 +61,42 @@ impl LineBuf {
         requires { length self.old + length bytes.now ≤ 4096 }
         ensures { self.new ≡ self.old ++ bytes.now }
     {
-        let _ = self.bytes.extend_from_slice(bytes);
+        let end = self.used + bytes.len();
+        self.bytes[self.used..end].copy_from_slice(bytes);
+        self.used = end;
     }
 
-    /// Appends a number in decimal digits, with a minus before it where it is negative; it fits.
-    pub fn number(&mut self, value: i64)
-        requires { length self.old + length (signed_decimal value) ≤ 4096 }
-        ensures { self.new ≡ self.old ++ signed_decimal value }
+    /// Appends one byte that fits.
+    pub fn byte(&mut self, byte: u8)
+        requires { length self.old < 4096 }
+        ensures { self.new ≡ self.old ++ byte ∷ [] }
     {
-        let mut digits = Buffer::new();
-        self.text(digits.format(value).as_bytes());
+        self.bytes[self.used] = byte;
+        self.used += 1;
+    }
+
+    /// Appends a word in decimal digits, with a minus before it where it is negative; it fits.
+    pub fn word(&mut self, word: i32)
+        requires { length self.old + 11 ≤ 4096 }
+        ensures text { self.new ≡ self.old ++ signed_decimal word }
+        ensures room { length self.new ≤ length self.old + 11 }
+    {
+        if word < 0 {
+            self.byte(b'-');
+        }
+        self.digits(word.unsigned_abs());
+    }
+
+    // Appends the digits of a number; they fit.
+    #[tactic(auto, using(crate::proofs::Digits::placed))]
+    fn digits(&mut self, number: u32)
+        requires { length self.old + 10 ≤ 4096 }
+        ensures text { self.new ≡ self.old ++ decimal number }
+        ensures room { length self.new ≤ length self.old + 10 }
+    {
+        let end = self.used + digits_of(number);
+        write_digits(u64::from(number), &mut self.bytes, end);
+        self.used = end;
     }
 
     /// Puts what waits, and is empty then, also after an `Err`.
@@ -76,8 +105,8 @@ impl LineBuf {
         ensures bytes { Puts (O.holds out.old) (O.holds out.new) result self.old }
         ensures cause { HasCause (O.faults out.old) (O.faults out.new) result }
     {
-        let answer = out.put(self.bytes.as_slice());
-        self.bytes.clear();
+        let answer = out.put(&self.bytes[..self.used]);
+        self.used = 0;
         answer
     }
 
@@ -120,4 +149,60 @@ impl LineBuf {
         }
         self.send(out)
     }
+}
+
+// How many decimal digits a number has.
+fn digits_of(number: u32) -> usize
+    ensures count { result ≡ length (decimal number) }
+    ensures most { result ≤ 10 }
+{
+    if number < 100_000 {
+        digits_of_few(number)
+    } else {
+        digits_of_many(number)
+    }
+}
+
+// The same, up to five digits.
+#[tactic(auto, using(crate::proofs::Digits::digit_rules))]
+fn digits_of_few(number: u32) -> usize
+    requires { number < 100000 }
+    ensures count { result ≡ length (decimal number) }
+    ensures most { result ≤ 10 }
+{
+    if number < 10 {
+        return 1;
+    }
+    if number < 100 {
+        return 2;
+    }
+    if number < 1_000 {
+        return 3;
+    }
+    if number < 10_000 {
+        return 4;
+    }
+    5
+}
+
+// The same, from six digits on.
+#[tactic(auto, using(crate::proofs::Digits::digit_rules))]
+fn digits_of_many(number: u32) -> usize
+    requires { 100000 ≤ number }
+    ensures count { result ≡ length (decimal number) }
+    ensures most { result ≤ 10 }
+{
+    if number >= 1_000_000_000 {
+        return 10;
+    }
+    if number >= 100_000_000 {
+        return 9;
+    }
+    if number >= 10_000_000 {
+        return 8;
+    }
+    if number >= 1_000_000 {
+        return 7;
+    }
+    6
 }

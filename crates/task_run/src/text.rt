@@ -48,7 +48,7 @@ fn append_outs(buffer: &mut LineBuf, words: &[i32])
     ensures { buffer.new ≡ buffer.old ++ out_line words.now }
 {
     append_words(buffer, words);
-    buffer.text(b"\n");
+    buffer.byte(b'\n');
 }
 
 // Appends words with single blanks between them.
@@ -60,7 +60,7 @@ fn append_words(buffer: &mut LineBuf, words: &[i32])
     let Some((first, rest)) = words.split_first() else {
         return;
     };
-    append_word(buffer, *first);
+    buffer.word(*first);
     append_tail(buffer, rest);
 }
 
@@ -71,19 +71,9 @@ fn append_tail(buffer: &mut LineBuf, words: &[i32])
     ensures room { length buffer.new ≤ length buffer.old + 12 * length words.now }
 {
     for word in words {
-        buffer.text(b" ");
-        append_word(buffer, *word);
+        buffer.byte(b' ');
+        buffer.word(*word);
     }
-}
-
-// Appends a word in decimal digits.
-fn append_word(buffer: &mut LineBuf, word: i32)
-    requires { length buffer.old + 11 ≤ 4096 }
-    ensures text { buffer.new ≡ buffer.old ++ signed_decimal word }
-    ensures room { length buffer.new ≤ length buffer.old + 11 }
-{
-    let mut digits = Buffer::new();
-    buffer.text(digits.format(word).as_bytes());
 }
 
 /// Writes the line of a broken instance.
