@@ -6,7 +6,8 @@ use Rattle.distinct_names.specs.Repeats.{Repeats, IsFirstRepeat}
 use Rattle.distinct_names.proofs.Names.{apart_from_rest, repeat_in_rest}
 use Rattle.graph.specs.Name.{Differ}
 
-differ_if : {X : Type 0} (f : X → List ℕ) (xs : List X) → ((i : ℕ) → Repeats (map f xs) i → ⊥) → Differ f xs
+-- names of which none repeats an earlier one differ
+pub differ_if : {X : Type 0} (f : X → List ℕ) (xs : List X) → ((i : ℕ) → Repeats (map f xs) i → ⊥) → Differ f xs
 differ_if f [] none = tt
 differ_if f (x ∷ xs) none = let w = apart_from_rest f x xs none in (w.0, differ_if f xs w.1)
 

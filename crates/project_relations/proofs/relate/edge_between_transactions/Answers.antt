@@ -1,0 +1,8 @@
+use Rattle.project_sheet.specs.Sheet.{plain_sheet}
+use Rattle.project_relations.specs.Relations.{IsEdgeBetweenTransactions}
+use Rattle.project_sheet.proofs.Firsts.{found_ok, least_at, nothing}
+use Rattle.project_relations.proofs.relate.edge_between_transactions.Goals as goal
+
+pub returns : goal.returns
+returns c = found_ok (IsEdgeBetweenTransactions (plain_sheet c.args.sheet.now)) _ nothing nothing nothing nothing (least_at _ _ _ c.first_across.ensures) nothing nothing
+    c.first_place.result c.first_place.ensures

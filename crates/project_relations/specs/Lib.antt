@@ -1,0 +1,2 @@
+pub mod RelationFails
+pub mod Relations

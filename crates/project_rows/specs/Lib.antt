@@ -1,0 +1,2 @@
+pub mod RowFails
+pub mod Rules
