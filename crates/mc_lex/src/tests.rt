@@ -167,3 +167,28 @@ fn texts_have_this_bad_byte(rt: HostRuntime) {
         );
     }
 }
+
+// The greatest length, with a token for each byte, and with the longest ones.
+#[test]
+fn a_text_of_the_greatest_length(rt: HostRuntime) -> Result<(), Fail> {
+    let alloc = rt.alloc();
+    for (part, len, kind) in [
+        (b";".as_slice(), 1, TokenKind::Sign(Sign::Semicolon)),
+        (b"sequence\n".as_slice(), 8, TokenKind::Key(Key::Sequence)),
+        (b"// any bytes\na".as_slice(), 1, NAME),
+    ] {
+        let mut text = Vec::new(alloc);
+        let count = 65_536 / part.len().max(1);
+        for _ in 0..count {
+            text.extend_from_slice(part)?;
+        }
+        assert!(rt; text.len() <= 65_536);
+        let tokens = lex(alloc, &text)?;
+        assert_eq!(rt; tokens.len(), count);
+        for token in &tokens {
+            assert_eq!(rt; token.kind, kind);
+            assert!(rt; token.span.from < token.span.to && token.span.to - token.span.from == len);
+        }
+    }
+    Ok(())
+}
