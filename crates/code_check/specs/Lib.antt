@@ -1,2 +1,4 @@
-pub mod Groups
+pub mod Ends
 pub mod Faults
+pub mod Groups
+pub mod Routine

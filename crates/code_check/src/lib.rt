@@ -3,6 +3,7 @@
 
 mod kinds;
 mod places;
+mod routine;
 mod rules;
 #[cfg(test)]
 mod tests;

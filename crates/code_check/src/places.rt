@@ -1,7 +1,9 @@
 //! Where an instruction stands.
 ghost use Rattle.std.specs.Prelude.{◌≡◌, ◌↔◌, ◌<◌, ◌≤◌, ◌+◌, ◌^◌, IsTrue, Contains, length, count_by, nat_le, Some};
-ghost use Rattle.word_code.specs.Typing.{height_at, routine_of, IsLast, Lands};
+ghost use Rattle.code_check.specs.Routine.{StandsIn};
+ghost use Rattle.word_code.specs.Typing.{height_at, routine_of, Lands};
 
+use crate::routine::Routine;
 use word_code::{Code, Slot};
 
 pub(crate) fn has_start(starts: &[u16], k: usize) -> bool
@@ -35,14 +37,6 @@ pub(crate) fn height_at(instrs: &[Slot], k: usize) -> Option<u8>
     }
 }
 
-pub(crate) fn is_last(code: &Code, k: usize) -> bool
-    requires few { length code.now.instrs < 2 ^ 32 }
-    requires stands { k < length code.now.instrs }
-    ensures { IsTrue result ↔ IsLast code.now k }
-{
-    has_start(code.starts.as_slice(), k + 1) || k + 1 == code.instrs.len()
-}
-
 pub(crate) fn is_height_at(code: &Code, k: usize, height: u8) -> bool
     ensures { IsTrue result ↔ (height_at code.now.instrs k ≡ Some height) }
 {
@@ -52,14 +46,24 @@ pub(crate) fn is_height_at(code: &Code, k: usize, height: u8) -> bool
     }
 }
 
-fn lands_at(code: &Code, k: usize, target: usize, height: u8) -> bool
-    ensures { IsTrue result ↔ Lands code.now k target height }
+/// Whether the next instruction has a height.
+pub(crate) fn follows(code: &Code, routine: Routine, k: usize, height: u8) -> bool
+    requires { StandsIn code.now routine k }
+    ensures { IsTrue result ↔ (height_at code.now.instrs (k + 1) ≡ Some height) }
 {
-    routine_of(code, target) == routine_of(code, k) && is_height_at(code, target, height)
+    is_height_at(code, k + 1, height)
 }
 
-pub(crate) fn lands(code: &Code, k: usize, target: u16, height: u8) -> bool
+fn lands_at(code: &Code, routine: Routine, k: usize, target: usize, height: u8) -> bool
+    requires { StandsIn code.now routine k }
     ensures { IsTrue result ↔ Lands code.now k target height }
 {
-    lands_at(code, k, usize::from(target), height)
+    is_height_at(code, target, height) && routine.has(code, k, target)
+}
+
+pub(crate) fn lands(code: &Code, routine: Routine, k: usize, target: u16, height: u8) -> bool
+    requires { StandsIn code.now routine k }
+    ensures { IsTrue result ↔ Lands code.now k target height }
+{
+    lands_at(code, routine, k, usize::from(target), height)
 }
