@@ -166,12 +166,18 @@ fn first_fault(alloc: Global, raw: &RawTask) -> Result<Option<Fault>, Memory>
 }
 
 /// Why a task isn't checked.
+#[derive(Clone, Copy, Debug, PartialEq, Eq)]
 pub enum CheckFault {
+    /// The first fault: no other starts before it, and none of a lower rank starts where it does.
     Bad { kind: Kind, span: Span },
+    /// There was no memory.
     Memory,
 }
 
-/// The checked task, or the first fault.
+/// The checked task of a raw tree, or its first fault. The answer is `Bad` exactly where some rule is
+/// broken, with the fault of the least start and of the least kind there; else it is the tree with its
+/// names as numbers, which is a checked task where the tree is one that a text can spell. The time grows
+/// with the size of the tree. The language and its rules are this project's own.
 pub fn check(alloc: Global, raw: &RawTask) -> Result<Task, CheckFault>
     ensures none { OnOk result (first_of_task (plain_task raw.now) ≡ None) }
     ensures task { IfOk result (λ t. t ≡ numbered (plain_task raw.now)) }
