@@ -1,0 +1,3 @@
+pub mod Numbers
+pub mod SlotState
+pub mod Slots
