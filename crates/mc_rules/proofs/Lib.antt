@@ -1,4 +1,5 @@
 pub mod Cells
+pub mod Determines
 pub mod Expressions
 pub mod First
 pub mod Functions

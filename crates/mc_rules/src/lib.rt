@@ -3,9 +3,11 @@
 #![tactic(auto)]
 
 mod fault;
+mod law;
 mod rules;
 
 pub use fault::earlier;
+pub use law::checked_tasks;
 pub use rules::{
     adds, bound, calls, constant, counts, crosses, declares, ends, indexed, marks, needs, plain,
     stands, widths,
