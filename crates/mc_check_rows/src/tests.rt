@@ -471,7 +471,7 @@ fn the_65th_operand_word_is_too_deep(rt: HostRuntime) -> Result<(), Fail> {
     Ok(())
 }
 
-/// The answer's parentheses don't count for its span.
+/// The span of an answer ends with its last number: no parenthesis counts for a span, not even an inner one.
 #[test]
 fn an_answer_is_too_deep_at_its_inner_expression(rt: HostRuntime) -> Result<(), Fail> {
     let deep = repeated(
@@ -485,7 +485,7 @@ fn an_answer_is_too_deep_at_its_inner_expression(rt: HostRuntime) -> Result<(), 
     assert!(rt; deep.len() <= 65_536);
     let span = Span {
         from: 27,
-        to: 27 + 62 * 5 + 9 + 62,
+        to: 27 + 62 * 5 + 9,
     };
     assert_eq!(rt;
         fault_of(rt.alloc(), deep.as_slice()),
