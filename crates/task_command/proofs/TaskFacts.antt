@@ -19,19 +19,21 @@ use Rattle.task_command.specs.Running.{running, answer_of, Stops, NoMemory, Read
 use Rattle.task_command.specs.Task.{tasking, TaskPromises}
 use Rattle.task_command.proofs.RunFacts.{files_running, lasts_running, refuses_running}
 use Rattle.task_run.specs.Text.{Ending, Finished, BadLine, Broken}
+use Rattle.mc_tree.specs.Plain.{plain_task}
+use Rattle.task_source.specs.Bound.{code_of}
 use Rattle.task_source.specs.Built.{built}
 use Rattle.task_source.proofs.BuiltFacts.{kept_built, missing_built, refuses_built, passes_built}
 
 pub lasts_tasking : (file : List ℕ) → Lasts (tasking file)
-lasts_tasking file = lasts_turn (built file) (λ b. running b.tree b.maxt) (passes_built file) (λ b. lasts_running b.tree b.maxt)
+lasts_tasking file = lasts_turn (built file) (λ b. running (plain_task b.task) (code_of b.task) b.maxt) (passes_built file) (λ b. lasts_running (plain_task b.task) (code_of b.task) b.maxt)
 
 -- what `task` refuses
 pub refuses_tasking : (P : Refusal → Type 0) (file : List ℕ) → P (refusal.ReadFault (Some file)) → P (refusal.TooLong (Some file)) → ((f : Fault) → P (refusal.Fault f)) → ((n : ℕ) → P (refusal.BadInput n)) → P refusal.Broken → Refuses P (tasking file)
 refuses_tasking P file missing long fault bad broken =
-    refuses_turn P (built file) (λ b. running b.tree b.maxt) (refuses_built P file missing long fault) (λ b. refuses_running P b.tree b.maxt bad broken)
+    refuses_turn P (built file) (λ b. running (plain_task b.task) (code_of b.task) b.maxt) (refuses_built P file missing long fault) (λ b. refuses_running P (plain_task b.task) (code_of b.task) b.maxt bad broken)
 
 files_tasking : (file : List ℕ) → Within KeepsFiles (tasking file)
-files_tasking file = within_turn KeepsFiles (built file) (λ b. running b.tree b.maxt) files_kept (kept_built KeepsFiles file files_kept) (λ b. files_running b.tree b.maxt)
+files_tasking file = within_turn KeepsFiles (built file) (λ b. running (plain_task b.task) (code_of b.task) b.maxt) files_kept (kept_built KeepsFiles file files_kept) (λ b. files_running (plain_task b.task) (code_of b.task) b.maxt)
 
 -- an answer of status 0 read the input to its end
 at_end_of : (file : List ℕ) (b n : Held) (c d : Counts) (r : Result (Unit {0}) Refusal) → Does (tasking file) b n c d r → r ≡ Ok tt → IsAtEnd n.left
@@ -63,7 +65,7 @@ unread_of file b n c d r does six = by does.how
     by (inl (inl stop)) = inr (kept.by_meant b n (Err stop.0) stop.1)
     by (inl (inr go)) = absurd (unread_ending go.3.0 r go.3.1 six)
     by (inr (e, is, inl cut, caused)) = inr (kept.by_cut b n e cut)
-    by (inr (e, is, inr go, caused)) = inl (unread_cut go.0.tree go.1 n c d e go.3.2 (sym (ap status_of_result is) ∙ six) caused)
+    by (inr (e, is, inr go, caused)) = inl (unread_cut (plain_task go.0.task) go.1 n c d e go.3.2 (sym (ap status_of_result is) ∙ six) caused)
 
 -- whatever the objects tell
 pub promises : (file : List ℕ) (b n : Held) (c d : Counts) (r : Result (Unit {0}) Refusal) → d.writes ≡ c.writes → Does (tasking file) b n c d r → TaskPromises file b n c d r
@@ -71,6 +73,6 @@ promises file b n c d r writes does = record {
   files_stay = within_does KeepsFiles (tasking file) (files_tasking file) does;
   writes_stay = writes;
   at_end = at_end_of file b n c d r does;
-  missing = λ missing. refused_does (refusal.ReadFault (Some file)) (tasking file) (refused_turn b (refusal.ReadFault (Some file)) (built file) (λ b. running b.tree b.maxt) (missing_built file b missing)) does;
+  missing = λ missing. refused_does (refusal.ReadFault (Some file)) (tasking file) (refused_turn b (refusal.ReadFault (Some file)) (built file) (λ b. running (plain_task b.task) (code_of b.task) b.maxt) (missing_built file b missing)) does;
   unread = unread_of file b n c d r does;
 }

@@ -2,6 +2,7 @@
 use Rattle.std.specs.Prelude.{◌≡◌, ◌⊎◌, ℕ, List, Some, Result, Ok, Err}
 use Rattle.std.specs.Io.KnownBytes.{IsAtEnd}
 use Rattle.mars_base.specs.Causes.{Rose}
+use Rattle.mc_tree.specs.Plain.{plain_task}
 use Rattle.refusals.specs.Causes.{Counts}
 use Rattle.refusals.specs.Status.{status_of_result}
 use Rattle.refusals.specs.declared.refusal.Refusal.{Refusal}
@@ -10,11 +11,12 @@ use Rattle.stages.specs.Files.{IsMissing}
 use Rattle.stages.specs.Stage.{Stage, in_turn}
 use Rattle.stages.specs.World.{Held}
 use Rattle.task_command.specs.Running.{running}
+use Rattle.task_source.specs.Bound.{code_of}
 use Rattle.task_source.specs.Built.{built}
 
 -- the source with its code and its bound, and then its run over the lines of the input
 abbrev pub tasking : List ℕ → Stage (Unit {0})
-tasking file = in_turn (built file) (λ b. running b.tree b.maxt)
+tasking file = in_turn (built file) (λ b. running (plain_task b.task) (code_of b.task) b.maxt)
 
 -- What `task` promises whatever the objects tell: no file and no count of failed writes changes; an input whose lines
 -- were all answered is at its end; a file that a shelf that tells doesn't have is a read fault of its name, unless there

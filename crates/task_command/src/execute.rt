@@ -7,6 +7,7 @@ ghost use Rattle.stages.specs.Stage.{Does};
 ghost use Rattle.stages.specs.World.{held};
 ghost use Rattle.task_command.specs.Helpers.{refusal_of};
 ghost use Rattle.task_command.specs.Running.{running};
+ghost use Rattle.task_source.specs.Bound.{code_of};
 ghost use Rattle.task_source.specs.Built.{IsBuilt};
 
 use mars_base::{Sink, Source};
@@ -24,7 +25,7 @@ pub fn run_built<I: Source, O: Sink>(
     out: &mut O,
 ) -> Result<(), Refusal>
     requires { IsBuilt built.now }
-    ensures answer { (files : Option (List File)) (reads writes : ℕ) → Does (running (plain_task built.now.task) built.now.maxt)
+    ensures answer { (files : Option (List File)) (reads writes : ℕ) → Does (running (plain_task built.now.task) (code_of built.now.task) built.now.maxt)
         (held files (I.left input.old) (O.holds out.old)) (held files (I.left input.new) (O.holds out.new))
         (counts reads writes (I.faults input.old) (O.faults out.old))
         (counts reads writes (I.faults input.new) (O.faults out.new))

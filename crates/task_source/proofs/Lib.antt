@@ -1,2 +1,5 @@
+pub mod Bounded
+pub mod Bounds
 pub mod BuiltFacts
-pub mod Thin
+pub mod Once
+pub mod Texts

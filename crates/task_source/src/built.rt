@@ -1,16 +1,20 @@
 //! A task with its code and its bound.
-ghost use Rattle.std.specs.Prelude.{◌≡◌, ℕ, List, Option, IfOk};
+ghost use Rattle.std.specs.Prelude.{◌≡◌, ◌⊎◌, ℕ, List, Option, Err, IfOk};
+ghost use Rattle.mc_tree.specs.CheckedTask.{IsCheckedTask};
+ghost use Rattle.refusals.specs.Causes.{counts};
 ghost use Rattle.stages.specs.Stage.{Does, given};
 ghost use Rattle.stages.specs.World.{held};
-ghost use Rattle.refusals.specs.Causes.{counts};
+ghost use Rattle.task_source.specs.Bound.{BoundGives};
 ghost use Rattle.task_source.specs.Built.{IsBuilt, built, plain_built};
 
 use crate::source::read_source;
-use mars_base::Shelf;
+use maxt::{MaxtFault, maxt};
+use mars_base::{Shelf, Text};
+use mc_compile::{CompileFault, compile};
+use mc_fold::fold;
 use mc_tree::Task;
-use refusals::Refusal;
+use refusals::{Fault, Refusal};
 use std::alloc::Global;
-use thin_code::{bound, compile};
 use word_code::Verified;
 
 /// A task, its code, and the bound of its code.
@@ -18,14 +22,15 @@ use word_code::Verified;
 pub struct BuiltTask {
     /// The tree.
     pub task: Task,
-    /// Its code.
+    /// The code of the task with its constants folded.
     pub code: Verified,
     /// The bound that each execution of the code keeps, in cycles.
     pub maxt: u32,
 }
 
 /// The task of a file of at most 65,536 bytes, with its code and its bound. Refused where the file can't be
-/// read, isn't there or is longer, where its text has a fault, and where there is no memory.
+/// read, isn't there or is longer, where its text has a fault or its code can't be bounded, and where there
+/// is no memory.
 pub fn read_task<H: Shelf>(alloc: Global, shelf: &mut H, file: &str) -> Result<BuiltTask, Refusal>
     ensures answer { (left out : Option (List ℕ)) (input output : ℕ) → Does (built file.now)
         (held (H.holds shelf.old) left out) (held (H.holds shelf.new) left out)
@@ -40,9 +45,33 @@ pub fn read_task<H: Shelf>(alloc: Global, shelf: &mut H, file: &str) -> Result<B
         Ok(task) => task,
         Err(refused) => return Err(refused),
     };
-    let Ok(code) = compile(alloc, &task) else {
+    bound_task(alloc, file, task)
+}
+
+// A checked task with its code and its bound, or the fault of its file.
+fn bound_task(alloc: Global, file: &str, task: Task) -> Result<BuiltTask, Refusal>
+    requires { IsCheckedTask task }
+    ensures answer { BoundGives file.now task (given (λ b. b.maxt) result) ⊎ (given (λ b. b.maxt) result ≡ Err Refusal.Memory) }
+    ensures task { IfOk result (λ b. b.task ≡ task) }
+    ensures built { IfOk result IsBuilt }
+{
+    let Ok(name) = Text::from_slice(alloc, file.as_bytes()) else {
         return Err(Refusal::Memory);
     };
-    let maxt = bound(code.code());
-    Ok(BuiltTask { task, code, maxt })
+    let Ok(folded) = fold(alloc, &task) else {
+        return Err(Refusal::Memory);
+    };
+    let code = match compile(alloc, &folded) {
+        Ok(code) => code,
+        Err(CompileFault::Memory) => return Err(Refusal::Memory),
+        Err(CompileFault::CodeTooLong(length)) => {
+            return Err(Refusal::Fault(Fault::CodeTooLong { file: name, length }));
+        }
+    };
+    match maxt(alloc, &folded) {
+        Ok(maxt) => Ok(BuiltTask { task, code, maxt }),
+        Err(MaxtFault::Memory) => Err(Refusal::Memory),
+        Err(MaxtFault::NoPath) => Err(Refusal::Fault(Fault::NoPath { file: name })),
+        Err(MaxtFault::TooLong) => Err(Refusal::Fault(Fault::MaxtTooLong { file: name })),
+    }
 }

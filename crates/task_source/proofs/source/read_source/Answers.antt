@@ -1,8 +1,7 @@
 use Rattle.std.proofs.Common.{◌≡◌, ◌⊎◌, subst, List, ℕ, Err}
-use Rattle.mc_tree.specs.Plain.{plain_task}
 use Rattle.refusals.specs.declared.refusal.Refusal.TheVariants as refusal
 use Rattle.stages.specs.Files.{reading}
-use Rattle.stages.specs.Stage.{given, judging}
+use Rattle.stages.specs.Stage.{judging}
 use Rattle.stages.proofs.Turns.{stopped, went, judged}
 use Rattle.task_source.specs.Source.{SourceGives}
 use Rattle.task_source.proofs.source.read_source.Goals as goal
@@ -13,6 +12,6 @@ returns-in-Err-clause-answer g c left out input output =
 
 pub returns-clause-answer : goal.returns-clause-answer
 returns-clause-answer g c left out input output =
-    let r = given plain_task c.read_text.result in
+    let r = c.read_text.result in
     went (reading c.args.file.now 65536) (λ bytes. judging (SourceGives c.args.file.now bytes)) ((c.in-Ok.ensures {u = tt}).answer left out input output)
     (judged (SourceGives c.args.file.now c.in-Ok.bytes.items) _ _ r (subst (λ (bytes : List ℕ). SourceGives c.args.file.now bytes r ⊎ (r ≡ Err refusal.Memory)) c.deref.ensures.value c.read_text.ensures.answer))
