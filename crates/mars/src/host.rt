@@ -1,15 +1,32 @@
 //! The outside as the system gives it. None of it tells what it holds, so that what is proved of it is
 //! only that each fault is counted.
+ghost use Rattle.std.specs.Io.{ReadsAtMost};
 ghost use Rattle.std.specs.Prelude.{None};
 
 use mars_base::{Shelf, ShelfFault, Sink, SinkFault, Source, SourceFault};
 use std::alloc::Global;
 use std::fs;
-use std::io::{ErrorKind, Read, Write};
+use std::io::{self, ErrorKind, Read, Write};
 use std::rt::Files;
 
 // How many bytes of a file are asked for at a time.
 const CHUNK: usize = 4_096;
+
+// How often a read that was interrupted is tried again.
+const TRIES: u32 = 1_000_000;
+
+// One read; a read that a signal interrupted is tried again.
+fn read_once<R: Read>(reader: &mut R, buf: &mut [u8]) -> io::Result<usize>
+    ensures { ReadsAtMost result buf.new }
+{
+    for _ in 0..TRIES {
+        match reader.read(buf) {
+            Err(error) if error.kind() == ErrorKind::Interrupted => {}
+            answer => return answer,
+        }
+    }
+    reader.read(buf)
+}
 
 /// The real files.
 #[derive(Drop)]
@@ -51,7 +68,7 @@ impl<R: Files> Shelf for FileShelf<'_, R> {
         };
         let mut buffer = [0u8; CHUNK];
         loop {
-            let Ok(count) = file.read(&mut buffer) else {
+            let Ok(count) = read_once(&mut file, &mut buffer) else {
                 self.bad_reads = self.bad_reads.saturating_add(1);
                 return Err(ShelfFault::Failed);
             };
@@ -99,7 +116,7 @@ impl<R: Read> Source for StdSource<R> {
     ghost faults = { λ s. s.faults };
 
     fn read(&mut self, buf: &mut [u8]) -> Result<usize, SourceFault> {
-        match self.inner.read(buf) {
+        match read_once(&mut self.inner, buf) {
             Ok(count) => Ok(count),
             Err(_) => {
                 self.faults = self.faults.saturating_add(1);

@@ -6,25 +6,47 @@ mod host;
 mod tests;
 
 use host::{FileShelf, StdSink, StdSource};
-use mars_top::mars;
+use mars_top::{Refusal, mars, say, status};
+use std::io::ErrorKind;
 use std::process::ExitCode;
 use std::{env, io};
 
 fn main(rt: HostRuntime) -> ExitCode {
-    let alloc = rt.alloc();
-    let mut words = Vec::new(alloc);
-    let Ok(args) = env::args(&rt) else {
-        return ExitCode::from(1);
-    };
-    for word in args.skip(1) {
-        if words.push(word).is_err() {
-            return ExitCode::from(1);
+    let mut err = StdSink::new(rt.stderr());
+    let words = match words(&rt) {
+        Ok(words) => words,
+        Err(refused) => {
+            let answer = Err(refused);
+            say(&mut err, &answer);
+            return ExitCode::from(status(&answer));
         }
-    }
+    };
     let mut shelf = FileShelf::new(&rt);
     let mut input = StdSource::new(rt.reader());
     let mut out = StdSink::new(io::writer(&rt));
-    let mut err = StdSink::new(rt.stderr());
-    let status = mars(alloc, &words, &mut shelf, &mut input, &mut out, &mut err);
+    let status = mars(
+        rt.alloc(),
+        &words,
+        &mut shelf,
+        &mut input,
+        &mut out,
+        &mut err,
+    );
     ExitCode::from(status)
+}
+
+// The words after the program's name. Words that aren't UTF-8 are no command.
+fn words(rt: &HostRuntime) -> Result<Vec<String>, Refusal> {
+    let args = match env::args(rt) {
+        Ok(args) => args,
+        Err(error) if error.kind() == ErrorKind::InvalidData => return Err(Refusal::Usage),
+        Err(_) => return Err(Refusal::Memory),
+    };
+    let mut words = Vec::new(rt.alloc());
+    for word in args.skip(1) {
+        if words.push(word).is_err() {
+            return Err(Refusal::Memory);
+        }
+    }
+    Ok(words)
 }

@@ -62,9 +62,9 @@ fn rows(rt: HostRuntime) -> Result<(), Fail> {
             "task",
             "comment.mc",
             "1\n",
-            3,
+            0,
+            "2\ntask inc maxt 7 seen 7\n",
             "",
-            "mars: comment.mc: not built\n",
         ),
         ("task", "none.mc", "", 6, "", "mars: read fault: none.mc\n"),
         ("run", "p1.img", "", 2, "", "mars: usage\n"),
@@ -88,11 +88,190 @@ fn rows(rt: HostRuntime) -> Result<(), Fail> {
     Ok(())
 }
 
+// A file `t.mc` of this text, run over this input: the status, the output and the error output.
+fn expect(
+    rt: &HostRuntime,
+    text: &[u8],
+    input: &[u8],
+    status: u8,
+    out_text: &[u8],
+    line: &[u8],
+) -> Result<(), Fail> {
+    let alloc = rt.alloc();
+    let mut shelf = MemShelf::new(alloc, Vec::new(alloc));
+    assert!(rt; shelf.put_file("t.mc", text).is_ok());
+    let mut source = MemSource::new(Vec::from_slice(alloc, input)?, Vec::new(alloc));
+    let mut out = MemSink::new(alloc, 4096, Vec::new(alloc)).map_err(|_| "memory")?;
+    let mut err = MemSink::new(alloc, 4096, Vec::new(alloc)).map_err(|_| "memory")?;
+    let words = vec![in alloc;
+        String::from_str(alloc, "task")?,
+        String::from_str(alloc, "t.mc")?,
+    ]?;
+    let got = mars(alloc, &words, &mut shelf, &mut source, &mut out, &mut err);
+    assert_eq!(rt; got, status);
+    assert_eq!(rt; out.bytes(), out_text);
+    assert_eq!(rt; err.bytes(), line);
+    Ok(())
+}
+
+// Each form of the language: what it writes, and its greatest cycles.
+#[test]
+fn whole_language(rt: HostRuntime) -> Result<(), Fail> {
+    for (text, input, status, out, line) in [
+        (
+            "task count; in n; out y; body { y = 0; while max 3 (y < n) { y = y + 1; } }",
+            "3\n",
+            0,
+            "3\ntask count maxt 60 seen 60\n",
+            "",
+        ),
+        (
+            "task count; in n; out y; body { y = 0; while max 3 (y < n) { y = y + 1; } }",
+            "4\n",
+            11,
+            "broken 0 count 0\n",
+            "mars: broken\n",
+        ),
+        (
+            "task deep; in x; out y; body { var j; scope M max 1000 { while max 60000 (x) { while max 30 (j) { if (x) { mark M; y = x / 3; } } } } }",
+            "0\n",
+            0,
+            "0\ntask deep maxt 20539007 seen 7\n",
+            "",
+        ),
+        (
+            "task nopath; in x; out y; body { scope M max 0 { mark M; } }",
+            "1\n",
+            3,
+            "",
+            "mars: t.mc: no path\n",
+        ),
+        (
+            "task trap; in x; out y; body { scope M max 0 { if (x) { y = 1 / x; mark M; } } y = x; }",
+            "0\n5\n",
+            11,
+            "0\nbroken 1 trap 0\n",
+            "mars: broken\n",
+        ),
+        (
+            "task seq; in x; out y; body { sequence max 12 { while max 10 (x) { y = y + 1; } while max 10 (x) { y = y / 3; } } }",
+            "0\n",
+            0,
+            "0\ntask seq maxt 302 seen 12\n",
+            "",
+        ),
+        (
+            "task both; out y; body { y = 1 / 0 && 0; }",
+            "\n",
+            11,
+            "broken 0 both 0\n",
+            "mars: broken\n",
+        ),
+        (
+            "task again; in x; out y; body { var i; while max 3 (i < x) { scope M max 1 { mark M; y = y + 1; } i = i + 1; } }",
+            "3\n",
+            0,
+            "3\ntask again maxt 84 seen 84\n",
+            "",
+        ),
+        (
+            "task far; in x; out y; body { while max 65535 (x) { while max 65535 (x) { } } }",
+            "1\n",
+            3,
+            "",
+            "mars: t.mc: maxt too long\n",
+        ),
+    ] {
+        expect(
+            &rt,
+            text.as_bytes(),
+            input.as_bytes(),
+            status,
+            out.as_bytes(),
+            line.as_bytes(),
+        )?;
+    }
+    Ok(())
+}
+
+// Faults of sources, each by its line.
+#[test]
+fn source_faults(rt: HostRuntime) -> Result<(), Fail> {
+    for (text, line) in [
+        ("task t;", "mars: t.mc: 7-7: no body\n"),
+        ("task t; @", "mars: t.mc: 8: bad byte\n"),
+        ("task t", "mars: t.mc: syntax at token 2\n"),
+        (
+            "task t; out y; body { y = ; }",
+            "mars: t.mc: syntax at token 10\n",
+        ),
+        (
+            "task t; out y[17]; body { }",
+            "mars: t.mc: 14-16: wrong width\n",
+        ),
+        (
+            "task t; out y; in y; body { }",
+            "mars: t.mc: 18-19: twice named\n",
+        ),
+        (
+            "task t; out y; body { y = z; }",
+            "mars: t.mc: 26-27: unknown name\n",
+        ),
+        (
+            "task t; out y; body { y[0] = 1; }",
+            "mars: t.mc: 22-23: not an array\n",
+        ),
+        (
+            "task t; out y; body { y = 2147483648; }",
+            "mars: t.mc: 26-36: constant out of range\n",
+        ),
+        (
+            "task t; out y; body { mark M; }",
+            "mars: t.mc: 27-28: mark outside its scope\n",
+        ),
+        (
+            "task t; out y; body { while max 0 (y) { } }",
+            "mars: t.mc: 32-33: zero bound\n",
+        ),
+        (
+            "task t; out y; body { scope M max 1024 { } }",
+            "mars: t.mc: 34-38: bound too large\n",
+        ),
+        (
+            "task t; out y; body { sequence max 2 { y = 1; } }",
+            "mars: t.mc: 39-45: not a loop\n",
+        ),
+        (
+            "task r; in x; out y; func f(a) { var b; b = f(a); return b; } body { y = f(x); }",
+            "mars: t.mc: 44-45: recursion\n",
+        ),
+    ] {
+        expect(&rt, text.as_bytes(), b"1\n", 3, b"", line.as_bytes())?;
+    }
+    Ok(())
+}
+
+// 86 statements of 767 instructions each, and the halt.
+#[test]
+fn long_code(rt: HostRuntime) -> Result<(), Fail> {
+    let alloc = rt.alloc();
+    let mut text = Vec::from_slice(alloc, b"task long; in a; out y; body {")?;
+    for _ in 0..86 {
+        text.extend_from_slice(b"y=a")?;
+        for _ in 0..255 {
+            text.extend_from_slice(b">a")?;
+        }
+        text.extend_from_slice(b";")?;
+    }
+    text.extend_from_slice(b"}")?;
+    expect(&rt, &text, b"1\n", 3, b"", b"mars: t.mc: code too long 65963\n")
+}
+
 #[test]
 fn too_long(rt: HostRuntime) -> Result<(), Fail> {
     let alloc = rt.alloc();
     for (length, status, line) in [
-        (65_536usize, 3, "mars: big.mc: not built\n"),
+        (65_536usize, 3, "mars: big.mc: syntax at token 0\n"),
         (65_537, 13, "mars: too long: big.mc\n"),
     ] {
         let mut shelf = MemShelf::new(alloc, Vec::new(alloc));

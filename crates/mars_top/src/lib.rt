@@ -4,6 +4,6 @@
 pub mod asked;
 pub mod top;
 
-pub use refusals::{Fault, ImageBad, Place, ProjectKind, Refusal, Section};
+pub use refusals::{Fault, ImageBad, Place, ProjectKind, Refusal, Section, say, status};
 pub use task_command::run_task;
 pub use top::mars;
