@@ -4,6 +4,7 @@ use mars_base::{
     unary,
 };
 use mars_top::mars;
+use std::alloc::Global;
 use std::test::Fail;
 
 const INC: &[u8] = b"task inc; in a; out y; body { y = a + 1; }\n";
@@ -88,18 +89,19 @@ fn rows(rt: HostRuntime) -> Result<(), Fail> {
     Ok(())
 }
 
-// A file `t.mc` of this text, run over this input: the status, the output and the error output.
-fn expect(
-    rt: &HostRuntime,
+// Whether a file `t.mc` of this text, run over this input, has this status, output and error output.
+fn answers(
+    alloc: Global,
     text: &[u8],
     input: &[u8],
     status: u8,
     out_text: &[u8],
     line: &[u8],
-) -> Result<(), Fail> {
-    let alloc = rt.alloc();
+) -> Result<bool, Fail> {
     let mut shelf = MemShelf::new(alloc, Vec::new(alloc));
-    assert!(rt; shelf.put_file("t.mc", text).is_ok());
+    if shelf.put_file("t.mc", text).is_err() {
+        return Ok(false);
+    }
     let mut source = MemSource::new(Vec::from_slice(alloc, input)?, Vec::new(alloc));
     let mut out = MemSink::new(alloc, 4096, Vec::new(alloc)).map_err(|_| "memory")?;
     let mut err = MemSink::new(alloc, 4096, Vec::new(alloc)).map_err(|_| "memory")?;
@@ -108,15 +110,13 @@ fn expect(
         String::from_str(alloc, "t.mc")?,
     ]?;
     let got = mars(alloc, &words, &mut shelf, &mut source, &mut out, &mut err);
-    assert_eq!(rt; got, status);
-    assert_eq!(rt; out.bytes(), out_text);
-    assert_eq!(rt; err.bytes(), line);
-    Ok(())
+    Ok(got == status && out.bytes() == out_text && err.bytes() == line)
 }
 
 // Each form of the language: what it writes, and its greatest cycles.
 #[test]
 fn whole_language(rt: HostRuntime) -> Result<(), Fail> {
+    let alloc = rt.alloc();
     for (text, input, status, out, line) in [
         (
             "task count; in n; out y; body { y = 0; while max 3 (y < n) { y = y + 1; } }",
@@ -182,14 +182,15 @@ fn whole_language(rt: HostRuntime) -> Result<(), Fail> {
             "mars: t.mc: maxt too long\n",
         ),
     ] {
-        expect(
-            &rt,
+        let meets = answers(
+            alloc,
             text.as_bytes(),
             input.as_bytes(),
             status,
             out.as_bytes(),
             line.as_bytes(),
         )?;
+        assert!(rt; meets, "{text} {input}");
     }
     Ok(())
 }
@@ -197,6 +198,7 @@ fn whole_language(rt: HostRuntime) -> Result<(), Fail> {
 // Faults of sources, each by its line.
 #[test]
 fn source_faults(rt: HostRuntime) -> Result<(), Fail> {
+    let alloc = rt.alloc();
     for (text, line) in [
         ("task t;", "mars: t.mc: 7-7: no body\n"),
         ("task t; @", "mars: t.mc: 8: bad byte\n"),
@@ -246,7 +248,8 @@ fn source_faults(rt: HostRuntime) -> Result<(), Fail> {
             "mars: t.mc: 44-45: recursion\n",
         ),
     ] {
-        expect(&rt, text.as_bytes(), b"1\n", 3, b"", line.as_bytes())?;
+        let meets = answers(alloc, text.as_bytes(), b"1\n", 3, b"", line.as_bytes())?;
+        assert!(rt; meets, "{text}");
     }
     Ok(())
 }
@@ -264,7 +267,9 @@ fn long_code(rt: HostRuntime) -> Result<(), Fail> {
         text.extend_from_slice(b";")?;
     }
     text.extend_from_slice(b"}")?;
-    expect(&rt, &text, b"1\n", 3, b"", b"mars: t.mc: code too long 65963\n")
+    let line = b"mars: t.mc: code too long 65963\n";
+    assert!(rt; answers(alloc, &text, b"1\n", 3, b"", line)?);
+    Ok(())
 }
 
 #[test]
