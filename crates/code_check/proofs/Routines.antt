@@ -1,7 +1,6 @@
 -- Starts that rise, and the instructions between two of them.
-use Rattle.std.proofs.Common.{◌≡◌, ◌⊎◌, ◌↔◌, inl, inr, ℕ, zero, suc, ◌+◌, ◌-◌, ◌<◌, ◌≤◌, Bool, true, false, cond, List, [], ◌∷◌, length, Option, Some, None, refl, sym, ap, ◌∙◌, subst, arith}
+use Rattle.std.proofs.Common.{◌≡◌, ◌⊎◌, ◌↔◌, inl, inr, ℕ, zero, suc, ◌+◌, ◌<◌, ◌≤◌, Bool, true, false, cond, List, [], ◌∷◌, length, Some, sym, ap, ◌∙◌, arith}
 use Rattle.std.specs.Prelude.{slice_get, slice_index, slice_index_or, nat_le, Contains, count_by}
-use Rattle.std.specs.List.{AllPairs}
 use Rattle.std.proofs.lemmas.Bool.{le-leb, lt-leb, cases_lt}
 use Rattle.std.proofs.lemmas.List.Kept.{AllPairs-from_increasing}
 use Rattle.std.proofs.lemmas.List.Sums.{sum_by-cons}
@@ -9,7 +8,7 @@ use Rattle.std.proofs.lemmas.Option.{slice_get_within, get_or_from_slice_get, sl
 use Rattle.word_code.specs.Typing.{IsWhole, IsLast, routine_of}
 use Rattle.word_code.specs.declared.code.Code.{Code}
 use Rattle.code_check.specs.Ends.{EndsAt}
-use Rattle.code_check.specs.Routine.{IsRoutine, StandsIn}
+use Rattle.code_check.specs.Routine.{IsRoutine}
 use Rattle.code_check.specs.declared.routine.Routine.{Routine}
 
 abbrev one_if : Bool → ℕ

@@ -1,5 +1,5 @@
 -- The routine of an instruction, by where it begins and where the next one does. This project's own.
-use Rattle.std.specs.Prelude.{◌≡◌, ◌⊎◌, ℕ, ◌+◌, ◌<◌, ◌≤◌, length, slice_get, Some}
+use Rattle.std.specs.Prelude.{◌≡◌, ℕ, ◌<◌, ◌≤◌, slice_get, Some}
 use Rattle.word_code.specs.Typing.{IsWhole}
 use Rattle.word_code.specs.declared.code.Code.{Code}
 use Rattle.code_check.specs.Ends.{EndsAt}

@@ -1,4 +1,4 @@
-use Rattle.std.proofs.Common.{◌≡◌, arith}
+use Rattle.std.proofs.Common.{arith}
 use Rattle.code_check.proofs.rules.first_bad.Goals as goal
 
 pub returns-clause-none : goal.returns-clause-none

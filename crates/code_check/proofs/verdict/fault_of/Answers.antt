@@ -1,4 +1,4 @@
-use Rattle.std.proofs.Common.{◌≡◌, refl, subst, Option, Some}
+use Rattle.std.proofs.Common.{refl, subst, Option}
 use Rattle.std.proofs.lemmas.Option.{slice_get_within}
 use Rattle.word_code.specs.Refused.{MeetsRules}
 use Rattle.word_code.specs.declared.code.Slot.{Slot}

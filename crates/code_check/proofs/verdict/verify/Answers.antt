@@ -1,6 +1,5 @@
-use Rattle.std.proofs.Common.{◌≡◌, Result, Err, ap}
+use Rattle.std.proofs.Common.{Err, ap}
 use Rattle.word_code.proofs.Refused.{refused_not_verified, refused_once}
-use Rattle.word_code.specs.declared.verified.Verified.{Verified}
 use Rattle.code_check.specs.declared.verdict.CodeFault.TheVariants.{Bad}
 use Rattle.code_check.proofs.verdict.verify.Goals as goal
 

@@ -1,4 +1,3 @@
-use Rattle.std.proofs.Common.{◌≡◌, ◌↔◌}
 use Rattle.std.proofs.lemmas.Bool.{eqb-true, eq-eqb}
 use Rattle.code_check.proofs.Routines.{start_here}
 use Rattle.code_check.proofs.routine.Routine.begins_at.Goals as goal

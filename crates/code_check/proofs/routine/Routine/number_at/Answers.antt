@@ -1,4 +1,4 @@
-use Rattle.std.proofs.Common.{◌≡◌, sym}
+use Rattle.std.proofs.Common.{sym}
 use Rattle.code_check.proofs.Routines.{inside}
 use Rattle.code_check.proofs.routine.Routine.number_at.Goals as goal
 
