@@ -8,8 +8,8 @@ ghost use Rattle.task_source.specs.Bound.{BoundGives};
 ghost use Rattle.task_source.specs.Built.{IsBuilt, built, plain_built};
 
 use crate::source::read_source;
-use maxt::{MaxtFault, maxt};
 use mars_base::{Shelf, Text};
+use maxt::{MaxtFault, maxt};
 use mc_compile::{CompileFault, compile};
 use mc_fold::fold;
 use mc_tree::Task;
