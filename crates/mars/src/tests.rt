@@ -3,7 +3,8 @@ use mars_base::{
     BinOp, MemShelf, MemSink, MemSource, Source, Steps, Text, UnOp, Words, binary, least_round,
     unary,
 };
-use mars_top::mars;
+use mars_top::{Fault, ImageBad, Place, ProjectKind, Refusal, Section, mars, say, status};
+use stages::{print_text, read_file, write_file};
 use std::alloc::Global;
 use std::test::Fail;
 
@@ -322,6 +323,146 @@ fn faults(rt: HostRuntime) -> Result<(), Fail> {
         assert_eq!(rt; out.bytes(), text.as_bytes());
         assert_eq!(rt; err.bytes(), line.as_bytes());
     }
+    Ok(())
+}
+
+// A name for a refusal's line.
+fn name(alloc: Global) -> Result<Text, Fail> {
+    Ok(Text::from_slice(alloc, b"f").map_err(|_| "memory")?)
+}
+
+// Whether a refusal has this status and puts this line.
+fn says(alloc: Global, refusal: Refusal, number: u8, line: &[u8]) -> Result<bool, Fail> {
+    let answer = Err(refusal);
+    let mut err = MemSink::new(alloc, 4096, Vec::new(alloc)).map_err(|_| "memory")?;
+    say(&mut err, &answer);
+    Ok(status(&answer) == number && err.bytes() == line)
+}
+
+#[test]
+fn lines_of_refusals(rt: HostRuntime) -> Result<(), Fail> {
+    let a = rt.alloc();
+    assert!(rt; says(a, Refusal::Memory, 1, b"mars: no memory\n")?);
+    assert!(rt; says(a, Refusal::Usage, 2, b"mars: usage\n")?);
+    assert!(rt; says(a, Refusal::Spent(40), 4, b"mars: budget 40 spent\n")?);
+    assert!(rt; says(a, Refusal::NoTable, 5, b"mars: no table\n")?);
+    assert!(rt; says(a, Refusal::ReadFault(None), 6, b"mars: read fault: input\n")?);
+    assert!(rt;
+        says(
+            a,
+            Refusal::WriteFault(None),
+            7,
+            b"mars: write fault: output\n"
+        )?
+    );
+    assert!(rt;
+        says(
+            a,
+            Refusal::BadInput(1_000_001),
+            8,
+            b"mars: bad input line 1000001\n"
+        )?
+    );
+    assert!(rt; says(a, Refusal::BadScript(3), 9, b"mars: bad script line 3\n")?);
+    assert!(rt; says(a, Refusal::Broken, 11, b"mars: broken\n")?);
+    assert!(rt; says(a, Refusal::Lost, 12, b"mars: lost\n")?);
+    assert!(rt;
+        says(
+            a,
+            Refusal::ReadFault(Some(name(a)?)),
+            6,
+            b"mars: read fault: f\n"
+        )?
+    );
+    assert!(rt;
+        says(
+            a,
+            Refusal::WriteFault(Some(name(a)?)),
+            7,
+            b"mars: write fault: f\n"
+        )?
+    );
+    assert!(rt;
+        says(
+            a,
+            Refusal::TooLong(Some(name(a)?)),
+            13,
+            b"mars: too long: f\n"
+        )?
+    );
+    Ok(())
+}
+
+#[test]
+fn lines_of_faults(rt: HostRuntime) -> Result<(), Fail> {
+    let a = rt.alloc();
+    let byte = Refusal::BadImage(ImageBad::Byte(17));
+    assert!(rt; says(a, byte, 10, b"mars: bad image: byte 17\n")?);
+    let net = Refusal::BadImage(ImageBad::Net);
+    assert!(rt; says(a, net, 10, b"mars: bad image: net\n")?);
+    let code = Refusal::BadImage(ImageBad::Code(2));
+    assert!(rt; says(a, code, 10, b"mars: bad image: code of task 2\n")?);
+    let table = Refusal::BadImage(ImageBad::Table(8));
+    assert!(rt; says(a, table, 10, b"mars: bad image: table rule 8\n")?);
+    let toml = Refusal::Fault(Fault::NotToml { project: name(a)? });
+    assert!(rt; says(a, toml, 3, b"mars: f: not toml\n")?);
+    let project = Refusal::Fault(Fault::Project {
+        project: name(a)?,
+        place: Place {
+            section: Section::Transaction,
+            entry: 2,
+        },
+        kind: ProjectKind::DeadlineAbovePeriod,
+    });
+    assert!(rt;
+        says(
+            a,
+            project,
+            3,
+            b"mars: f: transaction 2: deadline above period\n"
+        )?
+    );
+    let cycle = Refusal::Fault(Fault::Cycle {
+        project: name(a)?,
+        ticks: 131_070,
+    });
+    assert!(rt; says(a, cycle, 3, b"mars: f: cycle of 131070 ticks\n")?);
+    let jobs = Refusal::Fault(Fault::Jobs {
+        project: name(a)?,
+        count: 513,
+    });
+    assert!(rt; says(a, jobs, 3, b"mars: f: 513 jobs\n")?);
+    let words = Refusal::Fault(Fault::SensorWords {
+        project: name(a)?,
+        count: 70_000,
+    });
+    assert!(rt; says(a, words, 3, b"mars: f: 70000 sensor words\n")?);
+    Ok(())
+}
+
+#[test]
+fn files_and_text(rt: HostRuntime) -> Result<(), Fail> {
+    let alloc = rt.alloc();
+    let mut shelf = MemShelf::new(alloc, Vec::new(alloc));
+    assert!(rt; write_file(alloc, &mut shelf, "i", b"abc").is_ok());
+    assert!(rt;
+        matches!(read_file(alloc, &mut shelf, "i", 3), Ok(bytes) if bytes.as_slice() == b"abc".as_slice())
+    );
+    assert!(rt;
+        matches!(
+            read_file(alloc, &mut shelf, "i", 2),
+            Err(Refusal::TooLong(Some(_)))
+        )
+    );
+    assert!(rt;
+        matches!(
+            read_file(alloc, &mut shelf, "j", 2),
+            Err(Refusal::ReadFault(Some(_)))
+        )
+    );
+    let mut out = MemSink::new(alloc, 64, Vec::new(alloc)).map_err(|_| "memory")?;
+    assert!(rt; print_text(&mut out, b"maxt a 7\n").is_ok());
+    assert_eq!(rt; out.bytes(), b"maxt a 7\n".as_slice());
     Ok(())
 }
 
