@@ -3,6 +3,8 @@
 
 mod host;
 #[cfg(test)]
+mod order;
+#[cfg(test)]
 mod tests;
 
 use host::{FileShelf, StdSink, StdSource};
