@@ -176,6 +176,27 @@ fn whole_language(rt: HostRuntime) -> Result<(), Fail> {
             "",
         ),
         (
+            "task deep1; in x; out y; body { var j; scope M max 10 { while max 60 (x) { while max 30 (j) { if (x) { mark M; y = x / 3; } } } } }",
+            "0\n",
+            0,
+            "0\ntask deep1 maxt 20717 seen 7\n",
+            "",
+        ),
+        (
+            "task fold; in x; out y; body { y = x + 2 * 3 - -4; }",
+            "1\n",
+            0,
+            "11\ntask fold maxt 9 seen 9\n",
+            "",
+        ),
+        (
+            "task swap; out y; body { y = 0 && 1 / 0; }",
+            "\n",
+            11,
+            "broken 0 swap 0\n",
+            "mars: broken\n",
+        ),
+        (
             "task far; in x; out y; body { while max 65535 (x) { while max 65535 (x) { } } }",
             "1\n",
             3,
