@@ -1,0 +1,3 @@
+pub mod OneCycle
+pub mod OneList
+pub mod Whole
