@@ -1,0 +1,10 @@
+pub mod Cluster
+pub mod Effects
+pub mod Frame
+pub mod Plan
+pub mod PlanOf
+pub mod PlanRun
+pub mod Silences
+pub mod Sound
+pub mod State
+pub mod Tick

@@ -1,0 +1,4 @@
+pub mod Alike
+pub mod Equation
+pub mod NetRun
+pub mod Words
