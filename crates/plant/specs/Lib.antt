@@ -1,0 +1,3 @@
+pub mod InOrder
+pub mod Lengths
+pub mod Programs
