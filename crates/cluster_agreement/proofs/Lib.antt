@@ -1,0 +1,10 @@
+pub mod Along
+pub mod Ends
+pub mod Frames
+pub mod Jobs
+pub mod Losses
+pub mod Reading
+pub mod Slots
+pub mod States
+pub mod Step
+pub mod Whole

@@ -1,0 +1,4 @@
+pub mod Agreement
+pub mod Agrees
+pub mod Keeps
+pub mod Runs
