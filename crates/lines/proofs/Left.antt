@@ -6,6 +6,7 @@ use Rattle.std.specs.Io.KnownBytes.{prepend_known, IsAtEnd}
 use Rattle.std.proofs.lemmas.Bool.{le-leb, false_from_ne_true, leb-true}
 use Rattle.lines.specs.Grammar.{words_of}
 use Rattle.lines.specs.Lines.{RawLine, Lines, Line, Bad, End, lines_in, lines_from, line_words, onto_lines, without_return}
+use Rattle.lines.specs.First.{RefusesLine}
 use Rattle.lines.specs.Found.{NoFeedBelow, IsFirstFeed}
 use Rattle.lines.proofs.Split.{line_at_feed, line_at_end, begins_long}
 
@@ -151,6 +152,21 @@ long_refused n m width was kept old left same long e =
     subst (λ (k : ℕ). IfSome (left_of n width was old) (λ lines. lines ≡ Bad k)) e
     (subst (λ (o : Option Lines). IfSome o (λ lines. lines ≡ Bad n)) (sym (was_left n width was kept old left same))
     (too_long n width long.0 kept left long.1 long.2 long.3))
+
+-- where the first line is refused
+pub fed_refuses : (n m width : ℕ) (was kept : List ℕ) (old left : Option (List ℕ)) → prepend_known kept left ≡ prepend_known was old → RefusesLine kept width n false → n ≡ m
+    → IfSome (left_of m width was old) (λ lines. lines ≡ Bad n)
+fed_refuses n m width was kept old left same refused e = go (grind arith) refused.2 where
+  go : (65536 < refused.0) ⊎ (refused.0 ≤ 65536) → (65536 < refused.0) ⊎ ((words_of width (without_return (take refused.0 kept)) ≡ None) ⊎ (1000000 < n)) → IfSome (left_of m width was old) (λ lines. lines ≡ Bad n)
+  go (inl long) why = let within = refused.1.within in long_refused m n width was kept old left same (refused.0, long, omega (arith, within), refused.1.before) (sym e)
+  go (inr short) (inl long) = absurd (omega (arith, short, long))
+  go (inr short) (inr (inl words)) = fed_refused false n m width refused.0 was kept (without_return (take refused.0 kept)) old left same refused.1 short refl (λ _. words) e (inl refl)
+  go (inr short) (inr (inr over)) = fed_refused true n m width refused.0 was kept (without_return (take refused.0 kept)) old left same refused.1 short refl (λ bad. absurd (cc (bad))) e (inr over)
+
+pub unfed_refuses : (n m width : ℕ) (was kept : List ℕ) (old left : Option (List ℕ)) → prepend_known kept left ≡ prepend_known was old → 0 < length kept → NoFeedBelow (length kept) kept → length kept ≤ 65536 → IsAtEnd left
+    → RefusesLine kept width n true → n ≡ m → IfSome (left_of m width was old) (λ lines. lines ≡ Bad n)
+unfed_refuses n m width was kept old left same some none short end (inl words) e = unfed_refused false n m width was kept old left same some none short end (λ _. words) e (inl refl)
+unfed_refuses n m width was kept old left same some none short end (inr over) e = unfed_refused true n m width was kept old left same some none short end (λ bad. absurd (cc (bad))) e (inr over)
 
 -- what a test on the length says
 pub some_kept : (tested kept : List ℕ) → tested ≡ kept → (length tested ≡ 0 → ⊥) → 0 < length kept

@@ -1,9 +1,11 @@
 pub mod Digits
 pub mod Feeds
+pub mod FirstLine
+pub mod FirstWord
 pub mod Fits
 pub mod Gather
+pub mod Judged
 pub mod Left
-pub mod Parts
 pub mod Reading
-pub mod Returns
+pub mod Room
 pub mod Split

@@ -1,31 +1,15 @@
 -- What is read of a line so far, and what follows.
-use Rattle.std.proofs.Common.{◌≡◌, ℕ, ◌+◌, ◌<◌, List, [], ◌∷◌, ◌++◌, length, take, Option, Some, None, ℤ, refl, sym, ap, ◌∙◌, arith, cond, slice_set, eqb, eq-eqb}
+use Rattle.std.proofs.Common.{◌≡◌, ◌⊎◌, inl, inr, false, get_or, ℕ, ◌+◌, ◌<◌, List, [], ◌∷◌, ◌++◌, length, take, Option, Some, None, ℤ, refl, sym, ap, ◌∙◌, arith, cond, slice_set, eqb, eq-eqb}
 use Rattle.std.proofs.lemmas.List.{append_assoc, append-nil, length-append, length-take, take_all, take_more_set}
 use Rattle.std.proofs.lemmas.Bool.{false_from_ne_true, eqb-true}
-use Rattle.lines.specs.Grammar.{◌>>=◌, onto_words, word_of, words_in, of_width}
+use Rattle.lines.specs.First.{first_part, after_part}
+use Rattle.lines.specs.Grammar.{◌>>=◌, is_blank, onto_words, parts, word_of, words_in, of_width}
+use Rattle.std.specs.Prelude.{IfNone}
+use Rattle.lines.proofs.FirstWord.{begins}
 
 -- the words of what is left, behind those that were read
 abbrev pub behind : List ℤ → Option (List ℤ) → Option (List ℤ)
 behind front o = o >>= λ ws. Some (front ++ ws)
-
--- a part with nothing in it
-pub words_in-empty : (part : List ℕ) (more : List (List ℕ)) → length part ≡ 0 → words_in (part ∷ more) ≡ words_in more
-words_in-empty [] more e = refl
-words_in-empty (b ∷ bs) more e = absurd (omega arith)
-
--- a part that has something in it
-pub words_in-part : (part : List ℕ) (more : List (List ℕ)) → 0 < length part → words_in (part ∷ more) ≡ (word_of part >>= onto_words (words_in more))
-words_in-part [] more some = absurd (omega arith)
-words_in-part (b ∷ bs) more some = refl
-
--- a part that is no word spoils the line
-pub spoiled : (front : List ℤ) (part : List ℕ) (more : List (List ℕ)) → 0 < length part → word_of part ≡ None → behind front (words_in (part ∷ more)) ≡ None
-spoiled front part more some bad = ap (behind front) (words_in-part part more some ∙ ap (λ o. o >>= onto_words (words_in more)) bad)
-
--- a word, and what is left behind it
-pub one_word : (front : List ℤ) (part : List ℕ) (more : List (List ℕ)) (w : ℤ) → 0 < length part → word_of part ≡ Some w
-    → behind front (words_in (part ∷ more)) ≡ behind front (words_in more >>= λ ws. Some (w ∷ ws))
-one_word front part more w some is = ap (behind front) (words_in-part part more some ∙ ap (λ o. o >>= onto_words (words_in more)) is)
 
 -- the word goes behind those that were read
 pub read_more : (into : List ℤ) (count : ℕ) (w : ℤ) (o : Option (List ℤ)) → count < length into
@@ -52,3 +36,22 @@ of_width-same n ws e = ap (λ b. cond b (Some ws) None) (eq-eqb (length ws) n e)
 -- just as many
 pub all_read : (n : ℕ) (into : List ℤ) → length into ≡ n → (behind (take n into) (Some []) >>= of_width n) ≡ Some into
 all_read n into e = ap (of_width n) (append-nil (take n into) ∙ take_all n into (omega arith)) ∙ of_width-same n into e
+
+-- a line that has a word more than fit
+pub word_more : (n : ℕ) (into : List ℤ) (o : Option ℤ) (more : Option (List ℤ)) → length into ≡ n → (behind (take n into) (o >>= onto_words more) >>= of_width n) ≡ None
+word_more n into None more e = refl
+word_more n into (Some w) more e = too_many n into w more e
+
+-- a line on which something follows its last word
+pub goes_on : (n : ℕ) (into : List ℤ) (line : List ℕ) → 0 < length line → is_blank (get_or line 0 0) ≡ false → length into ≡ n → (behind (take n into) (words_in (parts line)) >>= of_width n) ≡ None
+goes_on n into [] some h e = absurd (omega arith)
+goes_on n into (b ∷ bs) some h e = ap (λ (o : Option (List ℤ)). behind (take n into) o >>= of_width n) (begins b bs h) ∙ word_more n into (word_of (b ∷ first_part bs)) (words_in (parts (after_part bs))) e
+
+-- a line on which no further word stands
+pub no_word : (n count : ℕ) (into : List ℤ) (line : List ℕ) → (line ≡ []) ⊎ (words_in (parts line) ≡ None) → count < n → length into ≡ n → (behind (take count into) (words_in (parts line)) >>= of_width n) ≡ None
+no_word n count into line (inl e) lt same = ap (λ (t : List ℕ). behind (take count into) (words_in (parts t)) >>= of_width n) e ∙ too_few n count into lt same
+no_word n count into line (inr e) lt same = ap (λ (o : Option (List ℤ)). behind (take count into) o >>= of_width n) e
+
+pub if_none : {A : Type 0} (r : Option A) (P Q : Type 0) → (P → Q) → IfNone r P → IfNone r Q
+if_none None P Q f h = f h
+if_none (Some a) P Q f h = tt

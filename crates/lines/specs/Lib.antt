@@ -1,6 +1,6 @@
+pub mod First
 pub mod Found
 pub mod Gathered
 pub mod Grammar
 pub mod Lines
-pub mod Parts
 pub mod Reader

@@ -11,9 +11,9 @@ use std::alloc::Global;
 use std::marker::Model;
 
 // How many bytes a buffer holds.
-const ROOM: usize = 4_096;
+const ROOM: usize = 65_536;
 
-/// Up to 4,096 bytes of text that wait to be sent, seen as their list. Numbers are formatted in their
+/// Up to 65,536 bytes of text that wait to be sent, seen as their list. Numbers are formatted in their
 /// place among them.
 #[derive(Drop)]
 pub struct LineBuf {
@@ -28,7 +28,7 @@ impl Model for LineBuf {
 
     ghost view = { λ b. take b.used b.bytes.items };
 
-    ghost invariant = { λ b. (length b.bytes.items ≡ 4096) × (b.used ≤ 4096) };
+    ghost invariant = { λ b. (length b.bytes.items ≡ 65536) × (b.used ≤ 65536) };
 }
 
 impl LineBuf {
@@ -44,7 +44,7 @@ impl LineBuf {
 
     /// How many more bytes fit.
     pub fn room(&self) -> usize
-        ensures { result + length self.now ≡ 4096 }
+        ensures { result + length self.now ≡ 65536 }
     {
         ROOM - self.used
     }
@@ -58,7 +58,7 @@ impl LineBuf {
 
     /// Appends bytes that fit.
     pub fn text(&mut self, bytes: &[u8])
-        requires { length self.old + length bytes.now ≤ 4096 }
+        requires { length self.old + length bytes.now ≤ 65536 }
         ensures { self.new ≡ self.old ++ bytes.now }
     {
         let end = self.used + bytes.len();
@@ -68,7 +68,7 @@ impl LineBuf {
 
     /// Appends one byte that fits.
     pub fn byte(&mut self, byte: u8)
-        requires { length self.old < 4096 }
+        requires { length self.old < 65536 }
         ensures { self.new ≡ self.old ++ byte ∷ [] }
     {
         self.bytes[self.used] = byte;
@@ -77,7 +77,7 @@ impl LineBuf {
 
     /// Appends a word in decimal digits, with a minus before it where it is negative; it fits.
     pub fn word(&mut self, word: i32)
-        requires { length self.old + 11 ≤ 4096 }
+        requires { length self.old + 11 ≤ 65536 }
         ensures text { self.new ≡ self.old ++ signed_decimal word }
         ensures room { length self.new ≤ length self.old + 11 }
     {
@@ -90,7 +90,7 @@ impl LineBuf {
     // Appends the digits of a number; they fit.
     #[tactic(auto, using(crate::proofs::Digits::placed))]
     fn digits(&mut self, number: u32)
-        requires { length self.old + 10 ≤ 4096 }
+        requires { length self.old + 10 ≤ 65536 }
         ensures text { self.new ≡ self.old ++ decimal number }
         ensures room { length self.new ≤ length self.old + 10 }
     {

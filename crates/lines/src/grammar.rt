@@ -1,106 +1,140 @@
 //! The words of a line.
-ghost use Rattle.std.specs.Prelude.{◌≡◌, ◌<◌, ◌≤◌, length, slice_index, Some, None, MatchOption, IfSome, true, false};
-ghost use Rattle.lines.specs.Grammar.{is_blank, parts, words_in, onto_words, number_of, unsigned_word, negative_word, words_of};
-ghost use Rattle.lines.specs.Parts.{first_part, after_part, BeginsWord};
-ghost use Rattle.lines.specs.Lines.{without_return};
+ghost use Rattle.std.specs.Prelude.{◌≡◌, ◌<◌, ◌≤◌, ◌⊎◌, [], length, drop, slice_index, Some, None, MatchOption, IfSome, IfNone, true, false};
+ghost use Rattle.lines.specs.Found.{NoFeedBelow};
+ghost use Rattle.lines.specs.Grammar.{is_blank, parts, words_in, onto_words, unsigned_word, negative_word, number_of, words_of};
+ghost use Rattle.lines.specs.First.{line_text, first_part, BeginsWord, EndsLine, ReadsWord};
 
-/// The words between the blanks of a text, put into `into`: true exactly where there are as many as
-/// `into` has. Where it is false, what `into` holds is open. The text is gone over once.
-pub fn read_words(text: &[u8], into: &mut [i32]) -> bool
-    ensures words { result ≡ true → words_of (length into.old) text.now ≡ Some into.new }
-    ensures none { result ≡ false → words_of (length into.old) text.now ≡ None }
+/// The words of the first line of a text, put into `into`: how many bytes the line has with its end, or
+/// None exactly where it hasn't as many words as `into`. Where it is None, what `into` holds is open. The
+/// line is gone over once, and its end is found on the way.
+pub fn read_line(text: &[u8], into: &mut [i32]) -> Option<usize>
+    ensures words { IfSome result (λ _. words_of (length into.old) (line_text text.now) ≡ Some into.new) }
+    ensures end { IfSome result (EndsLine text.now) }
+    ensures none { IfNone result (words_of (length into.old) (line_text text.now) ≡ None) }
 {
-    let mut rest = text;
-    let mut count = 0;
-    loop {
-        match rest {
-            [] => return count == into.len(),
-            [b' ' | b'\t', more @ ..] => rest = more,
-            _ => {
-                let Some((word, more)) = first_word(rest) else {
-                    return false;
-                };
-                if count == into.len() {
-                    return false;
-                }
-                into[count] = word;
-                count += 1;
-                rest = more;
-            }
+    let mut at = 0;
+    for word in into.iter_mut() {
+        let (value, next) = word_at(text, behind_blanks(text, at))?;
+        *word = value;
+        at = next;
+    }
+    line_end(text, behind_blanks(text, at))
+}
+
+// The place behind the blanks that stand at a place.
+fn behind_blanks(text: &[u8], from: usize) -> usize
+    requires within { from ≤ length text.now }
+    requires line { NoFeedBelow from text.now }
+    ensures within { result ≤ length text.now }
+    ensures line { NoFeedBelow result text.now }
+    ensures words { words_in (parts (line_text (drop from text.now))) ≡ words_in (parts (line_text (drop result text.now))) }
+    ensures begins { result < length text.now → is_blank (slice_index text.now result) ≡ false }
+{
+    let mut at = from;
+    while at < text.len() {
+        match text[at] {
+            b' ' | b'\t' => at += 1,
+            _ => return at,
         }
     }
+    at
 }
 
-/// The text without the carriage return at its end, where it has one.
-#[tactic(auto, using(crate::proofs::Returns::return_rules))]
-pub fn cut_return(text: &[u8]) -> &[u8]
-    ensures { result.now ≡ without_return text.now }
+// The word that begins at a place, and where it ends; None where the line ends there, or where the bytes up
+// to the next blank or the line's end are no word.
+fn word_at(text: &[u8], from: usize) -> Option<(i32, usize)>
+    requires within { from ≤ length text.now }
+    requires line { NoFeedBelow from text.now }
+    requires begins { from < length text.now → is_blank (slice_index text.now from) ≡ false }
+    ensures word { ReadsWord (line_text (drop from text.now)) (λ next. line_text (drop next text.now)) result }
+    ensures within { IfSome result (λ r. r.1 ≤ length text.now) }
+    ensures line { IfSome result (λ r. NoFeedBelow r.1 text.now) }
 {
-    match text.split_last() {
-        Some((last, front)) => { if *last == b'\r' { front } else { text } }
-        None => text,
-    }
-}
-
-// The word that begins a text, and what follows the blank behind it; None where the bytes up to the
-// first blank are no word.
-fn first_word(text: &[u8]) -> Option<(i32, &[u8])>
-    requires some { 0 < length text.now }
-    requires begins { is_blank (slice_index text.now 0) ≡ false }
-    ensures word { MatchOption result
-        (words_in (parts text.now) ≡ None)
-        (λ r. words_in (parts text.now) ≡ onto_words (words_in (parts r.1.now)) r.0) }
-    ensures less { IfSome result (λ r. length r.1.now < length text.now) }
-{
-    if text[0] == b'-' {
-        negative_word(&text[1..])
+    if from < text.len() && text[from] == b'-' {
+        negative_word(text, from + 1)
     } else {
-        unsigned_word(text)
+        unsigned_word(text, from)
     }
 }
 
-// The word of the digits before the first blank, behind a minus.
-fn negative_word(digits: &[u8]) -> Option<(i32, &[u8])>
-    ensures word { BeginsWord negative_word digits.now result }
-    ensures less { IfSome result (λ r. length r.1.now ≤ length digits.now) }
+// The word of the digits at a place, behind a minus.
+fn negative_word(text: &[u8], from: usize) -> Option<(i32, usize)>
+    requires within { from ≤ length text.now }
+    requires line { NoFeedBelow from text.now }
+    ensures word { BeginsWord negative_word (line_text (drop from text.now)) (λ next. line_text (drop next text.now)) result }
+    ensures within { IfSome result (λ r. r.1 ≤ length text.now) }
+    ensures line { IfSome result (λ r. NoFeedBelow r.1 text.now) }
 {
-    let (n, more) = number(digits)?;
+    let (n, next) = number(text, from)?;
     if n > 1 << 31 {
         return None;
     }
-    Some(((-(n as i64)) as i32, more))
+    Some(((-(n as i64)) as i32, next))
 }
 
-// The word of the digits before the first blank.
-fn unsigned_word(digits: &[u8]) -> Option<(i32, &[u8])>
-    ensures word { BeginsWord unsigned_word digits.now result }
-    ensures less { IfSome result (λ r. length r.1.now < length digits.now) }
+// The word of the digits at a place.
+fn unsigned_word(text: &[u8], from: usize) -> Option<(i32, usize)>
+    requires within { from ≤ length text.now }
+    requires line { NoFeedBelow from text.now }
+    ensures word { BeginsWord unsigned_word (line_text (drop from text.now)) (λ next. line_text (drop next text.now)) result }
+    ensures within { IfSome result (λ r. r.1 ≤ length text.now) }
+    ensures line { IfSome result (λ r. NoFeedBelow r.1 text.now) }
 {
-    let (n, more) = number(digits)?;
+    let (n, next) = number(text, from)?;
     if n >= 1 << 31 {
         return None;
     }
-    Some((n as i32, more))
+    Some((n as i32, next))
 }
 
-// The number of 1 to 10 digits before the first blank, and what follows the blank; None where other bytes
-// stand there.
-fn number(text: &[u8]) -> Option<(u64, &[u8])>
-    ensures number { MatchOption result
-        (number_of (first_part text.now) ≡ None)
-        (λ r. (number_of (first_part text.now) ≡ Some r.0) × (r.1.now ≡ after_part text.now)) }
-    ensures less { IfSome result (λ r. length r.1.now < length text.now) }
+// The number of 1 to 10 digits at a place, and where they end; None where fewer or more stand there, or
+// where neither a blank nor the line's end follows them.
+fn number(text: &[u8], from: usize) -> Option<(u64, usize)>
+    requires within { from ≤ length text.now }
+    requires line { NoFeedBelow from text.now }
+    ensures number { BeginsWord number_of (line_text (drop from text.now)) (λ next. line_text (drop next text.now)) result }
+    ensures within { IfSome result (λ r. r.1 ≤ length text.now) }
+    ensures line { IfSome result (λ r. NoFeedBelow r.1 text.now) }
 {
     let mut n = 0u64;
-    for (i, byte) in text.iter().enumerate() {
-        match byte {
-            b'0'..=b'9' if i < 10 => n = n * 10 + u64::from(*byte - b'0'),
-            b' ' | b'\t' if 0 < i => return Some((n, &text[i + 1..])),
-            _ => return None,
+    let mut at = from;
+    while at < text.len() {
+        match text[at] {
+            byte @ b'0'..=b'9' => n = n.wrapping_mul(10).wrapping_add(u64::from(byte - b'0')),
+            _ => break,
         }
+        at += 1;
     }
-    if text.is_empty() {
+    if at == from || at - from > 10 || !ends_part(text, at) {
         return None;
     }
-    Some((n, &text[text.len()..]))
+    Some((n, at))
+}
+
+// Whether a blank or the line's end stands at a place.
+fn ends_part(text: &[u8], at: usize) -> bool
+    requires { at ≤ length text.now }
+    ensures ends { result ≡ true → first_part (line_text (drop at text.now)) ≡ [] }
+    ensures goes { result ≡ false → (at < length text.now) × (0 < length (first_part (line_text (drop at text.now)))) × (slice_index (first_part (line_text (drop at text.now))) 0 ≡ slice_index text.now at) }
+{
+    matches!(
+        &text[at..],
+        [] | [b' ' | b'\t' | b'\n', ..] | [b'\r', b'\n', ..]
+    )
+}
+
+// How many bytes the line has whose end stands at a place; None where it doesn't end there.
+fn line_end(text: &[u8], at: usize) -> Option<usize>
+    requires within { at ≤ length text.now }
+    requires line { NoFeedBelow at text.now }
+    ensures ends { IfSome result (λ _. line_text (drop at text.now) ≡ []) }
+    ensures end { IfSome result (EndsLine text.now) }
+    ensures none { IfNone result ((at < length text.now) × (0 < length (line_text (drop at text.now))) × (slice_index (line_text (drop at text.now)) 0 ≡ slice_index text.now at)) }
+{
+    match &text[at..] {
+        [] => Some(at),
+        [b'\n', ..] => Some(at + 1),
+        [b'\r', b'\n', ..] => Some(at + 2),
+        _ => None,
+    }
 }

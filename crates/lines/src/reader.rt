@@ -4,13 +4,14 @@ ghost use Rattle.std.specs.Int.{w32};
 ghost use Rattle.std.specs.Option.{option_map, ForSome, ForNone};
 ghost use Rattle.std.specs.Io.KnownBytes.{prepend_known, IsAtEnd};
 ghost use Rattle.mars_base.specs.Causes.{HasCause, Rose};
-ghost use Rattle.lines.specs.Found.{Passes, Finds, FindsFeed, HoldsFeed, IsFeed, IsFirstFeed, NoFeedBelow, NoneCame, WithoutFeed};
+ghost use Rattle.lines.specs.Found.{Finds, HoldsFeed, IsWhole, NoFeedBelow, NoneCame, WithoutFeed};
+ghost use Rattle.lines.specs.First.{PassesLine, RefusesLine};
 
 use crate::LineBuf;
-use crate::grammar::{cut_return, read_words};
+use crate::grammar::read_line;
 use crate::window::{LONGEST, Window};
 use mars_base::{Memory, Source, SourceFault};
-use memchr::memchr;
+use memchr::memrchr;
 use std::alloc::Global;
 
 /// How many lines an input has at most; a further line is a bad line.
@@ -46,28 +47,26 @@ impl From<SourceFault> for LineFault {
 
 // What stands first among the bytes that are kept.
 enum Found {
-    // A line feed at this place, of at most 65,536.
-    Feed(usize),
-    // No line feed, and the input ends behind them.
+    // A line that a line feed ends.
+    Line,
+    // No line feed, and the input ends behind them; they are at most as many as a line has.
     Rest,
-    // More than 65,536 bytes before a line feed or the end.
+    // No line feed, and more bytes than a line has.
     Long,
 }
 
 /// Reads an input line by line. It takes all its memory at once, keeps what it took beyond a line, and
-/// asks its source only where that holds no line feed, and never behind its end. Each byte is searched
-/// once for a line feed.
+/// asks its source only where that holds no line feed, and never behind its end.
 #[derive(Drop)]
 pub struct LineReader {
     window: Window,
     count: u64,
-    // Where the first line feed stands among the bytes that are kept.
-    feed: Option<usize>,
+    // How many of the bytes that are kept stand up to the last line feed among them, with it.
+    whole: usize,
     // Whether the source came to its end; nothing is kept then.
     ended: bool,
     ghost counted: { count ≤ 1000000 },
-    ghost none: { ForNone feed (NoFeedBelow (length window) window) },
-    ghost first: { ForSome feed (λ n. IsFirstFeed n window) },
+    ghost lines: { IsWhole whole window },
     ghost over: { ended ≡ true → window ≡ [] },
 }
 
@@ -84,7 +83,7 @@ impl LineReader {
         Ok(LineReader {
             window: Window::new(alloc)?,
             count: 0,
-            feed: None,
+            whole: 0,
             ended: false,
         })
     }
@@ -93,7 +92,7 @@ impl LineReader {
     pub fn holds_line(&self) -> bool
         ensures { IsTrue result ↔ HoldsFeed (kept_of self.now) }
     {
-        self.feed.is_some()
+        self.whole > 0
     }
 
     /// Puts the words of the next line into `into`, which has as many places as a line has words. `unsent`
@@ -123,21 +122,13 @@ impl LineReader {
             return Ok(Next::End);
         }
         match self.find_line(source, unsent)? {
+            Found::Line => self.read_first(into, false),
+            Found::Rest if self.window.bytes().is_empty() => {
+                self.ended = true;
+                Ok(Next::End)
+            }
+            Found::Rest => self.read_first(into, true),
             Found::Long => Err(LineFault::Bad(self.count + 1)),
-            Found::Feed(place) => {
-                let is_line = read_words(cut_return(&self.window.bytes()[..place]), into);
-                self.pass(is_line, place + 1, false)
-            }
-            Found::Rest => {
-                let kept = self.window.bytes();
-                let taken = kept.len();
-                if taken == 0 {
-                    self.ended = true;
-                    return Ok(Next::End);
-                }
-                let is_line = read_words(kept, into);
-                self.pass(is_line, taken, true)
-            }
         }
     }
 
@@ -159,10 +150,10 @@ impl LineReader {
         ensures going { is_over self.new ≡ false }
         ensures cause { HasCause (I.faults source.old) (I.faults source.new) result }
     {
-        match self.feed {
-            Some(place) => Ok(feed_at(place)),
-            None => self.ask_line(source, unsent),
+        if self.whole > 0 {
+            return Ok(Found::Line);
         }
+        self.ask_line(source, unsent)
     }
 
     // The same, where no line feed is kept.
@@ -172,7 +163,7 @@ impl LineReader {
         unsent: &LineBuf,
     ) -> Result<Found, SourceFault>
         requires going { is_over self.old ≡ false }
-        requires none { self.old.feed ≡ None }
+        requires none { self.old.whole ≡ 0 }
         requires sent { unsent.now ≡ [] }
         ensures bytes { prepend_known (kept_of self.new) (I.left source.new) ≡ prepend_known (kept_of self.old) (I.left source.old) }
         ensures front { take (length (kept_of self.old)) (kept_of self.new) ≡ kept_of self.old }
@@ -182,86 +173,80 @@ impl LineReader {
         ensures going { is_over self.new ≡ false }
         ensures cause { HasCause (I.faults source.old) (I.faults source.new) result }
     {
-        self.feed = fill_to_feed(&mut self.window, source, unsent)?;
-        match self.feed {
-            Some(place) => Ok(feed_at(place)),
-            None => Ok(without_feed(self.window.bytes())),
+        self.whole = fill_to_feed(&mut self.window, source, unsent)?;
+        if self.whole > 0 {
+            return Ok(Found::Line);
         }
+        Ok(without_feed(self.window.bytes()))
     }
 
-    // Goes over the first bytes, where they are a line and not one too many; `last` tells that no more
-    // follow them.
-    fn pass(&mut self, is_line: bool, taken: usize, last: bool) -> Result<Next, LineFault>
+    // Reads the first line and goes over it, where it is one and not one too many; `last` tells that no line
+    // feed ends it.
+    fn read_first(&mut self, into: &mut [i32], last: bool) -> Result<Next, LineFault>
         requires going { is_over self.old ≡ false }
-        requires within { taken ≤ length (kept_of self.old) }
-        requires last { last ≡ true → taken ≡ length (kept_of self.old) }
-        ensures line { result ≡ Ok Next.Line → Passes (kept_of self.old) (kept_of self.new) (count_of self.old) (count_of self.new) is_line taken }
+        requires last { last ≡ true → NoFeedBelow (length (kept_of self.old)) (kept_of self.old) × (length (kept_of self.old) ≤ 65536) }
+        requires fed { last ≡ false → HoldsFeed (kept_of self.old) }
+        ensures line { result ≡ Ok Next.Line → PassesLine (kept_of self.old) (kept_of self.new) (count_of self.old) (count_of self.new) (length into.old) into.new last }
         ensures over { result ≡ Ok Next.Line → is_over self.new ≡ last }
         ensures going { IsErr result → is_over self.new ≡ false }
-        ensures bad { (n : ℕ) → result ≡ Err (LineFault.Bad n) → (n ≡ count_of self.old + 1) × ((is_line ≡ false) ⊎ (1000000 < n)) }
+        ensures bad { (n : ℕ) → result ≡ Err (LineFault.Bad n) → (n ≡ count_of self.old + 1) × RefusesLine (kept_of self.old) (length into.old) n last }
         ensures no_end { result ≡ Ok Next.End → ⊥ }
         ensures no_read { result ≡ Err LineFault.Read → ⊥ }
     {
-        if !is_line || self.count >= MOST_LINES {
+        let Some(taken) = read_line(self.window.bytes(), into) else {
+            return Err(LineFault::Bad(self.count + 1));
+        };
+        if taken > LONGEST + 1 || self.count >= MOST_LINES {
             return Err(LineFault::Bad(self.count + 1));
         }
         self.window.consume(taken);
-        self.feed = next_feed(self.window.bytes(), 0);
+        self.whole = self.whole.saturating_sub(taken);
         self.count += 1;
         self.ended = last;
         Ok(Next::Line)
     }
 }
 
-// Takes bytes from the source until the first line feed comes, and answers its place; or until there are
-// more than a line has, or the input ends, and answers None.
+// Takes bytes from the source until a line feed comes, and answers how many stand up to the last one with
+// it; or until there are more than a line has, or the input ends, and answers 0.
 fn fill_to_feed<I: Source>(
     window: &mut Window,
     source: &mut I,
     unsent: &LineBuf,
-) -> Result<Option<usize>, SourceFault>
+) -> Result<usize, SourceFault>
     requires none { NoFeedBelow (length window.old) window.old }
     requires sent { unsent.now ≡ [] }
     ensures bytes { prepend_known window.new (I.left source.new) ≡ prepend_known window.old (I.left source.old) }
     ensures front { take (length window.old) window.new ≡ window.old }
-    ensures feed { IfOk result (λ feed. IsFeed feed window.new) }
-    ensures came { IfOk result (λ feed. IfNone feed (NoneCame window.new (I.left source.new))) }
+    ensures whole { IfOk result (λ whole. IsWhole whole window.new) }
+    ensures came { IfOk result (λ whole. whole ≡ 0 → NoneCame window.new (I.left source.new)) }
     ensures none { OnErr result (NoFeedBelow (length window.new) window.new) }
     ensures cause { HasCause (I.faults source.old) (I.faults source.new) result }
 {
     let mut searched = window.bytes().len();
     while searched <= LONGEST {
         if window.fill(source, unsent)? == 0 {
-            return Ok(None);
+            return Ok(0);
         }
-        if let Some(place) = next_feed(window.bytes(), searched) {
-            return Ok(Some(place));
+        let whole = up_to_last_feed(window.bytes(), searched);
+        if whole > 0 {
+            return Ok(whole);
         }
         searched = window.bytes().len();
     }
-    Ok(None)
+    Ok(0)
 }
 
-// The place of the first line feed, where none stands among the bytes that were searched.
-fn next_feed(kept: &[u8], searched: usize) -> Option<usize>
+// How many bytes stand up to the last line feed with it, or 0, where none stands among those that were
+// searched.
+fn up_to_last_feed(kept: &[u8], searched: usize) -> usize
     requires within { searched ≤ length kept.now }
     requires none { NoFeedBelow searched kept.now }
-    ensures { IsFeed result kept.now }
+    ensures { IsWhole result kept.now }
 {
-    match memchr(b'\n', &kept[searched..]) {
-        Some(place) => Some(searched + place),
-        None => None,
-    }
-}
-
-// What the first line feed, which stands at a place, means.
-fn feed_at(place: usize) -> Found
-    ensures { FindsFeed place result }
-{
-    if place <= LONGEST {
-        Found::Feed(place)
-    } else {
-        Found::Long
+    match memrchr(b'\n', &kept[searched..]) {
+        Some(place) => searched + place + 1,
+        None => 0,
     }
 }
 

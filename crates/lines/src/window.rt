@@ -1,5 +1,5 @@
 //! The bytes of a source that were taken and not yet used.
-ghost use Rattle.std.specs.Prelude.{◌≡◌, ◌+◌, ◌<◌, ◌≤◌, [], IfOk, MatchResult, length, take, drop, vec_len, vec_capacity, ◌*◌};
+ghost use Rattle.std.specs.Prelude.{◌≡◌, ◌+◌, ◌-◌, ◌*◌, ◌<◌, ◌≤◌, [], IfOk, MatchResult, length, take, drop};
 ghost use Rattle.std.specs.Io.KnownBytes.{prepend_known, IsAtEnd};
 ghost use Rattle.mars_base.specs.Causes.{HasCause};
 
@@ -11,27 +11,25 @@ use std::marker::Model;
 /// How many bytes a line has at most before its end.
 pub const LONGEST: usize = 65_536;
 
-// How many bytes are asked of the source at a time.
-const CHUNK: usize = 4_096;
-
-// The room of a window: two lines and a chunk.
-const ROOM: usize = 2 * LONGEST + CHUNK;
+// The room of a window: four lines.
+const ROOM: usize = 4 * LONGEST;
 
 /// Bytes that were taken from a source and not yet used, seen as their list.
 #[derive(Drop)]
 pub struct Window {
     bytes: Vec<u8>,
     start: usize,
+    end: usize,
 }
 
 impl Model for Window {
-    ghost use Rattle.std.specs.Prelude.{◌≤◌, List, ℕ, drop, vec_len, vec_capacity};
+    ghost use Rattle.std.specs.Prelude.{◌≡◌, ◌≤◌, List, ℕ, take, drop, vec_len};
 
     ghost Value = { List ℕ };
 
-    ghost view = { λ w. drop w.start w.bytes.items };
+    ghost view = { λ w. drop w.start (take w.end w.bytes.items) };
 
-    ghost invariant = { λ w. (w.start ≤ vec_len w.bytes) × (135168 ≤ vec_capacity w.bytes) };
+    ghost invariant = { λ w. (w.start ≤ w.end) × (w.end ≤ vec_len w.bytes) × (vec_len w.bytes ≡ 262144) };
 }
 
 impl Window {
@@ -40,8 +38,9 @@ impl Window {
         ensures { IfOk result (λ w. w ≡ []) }
     {
         Ok(Window {
-            bytes: Vec::with_capacity(alloc, ROOM)?,
+            bytes: vec![in alloc; 0u8; ROOM]?,
             start: 0,
+            end: 0,
         })
     }
 
@@ -49,7 +48,7 @@ impl Window {
     pub fn bytes(&self) -> &[u8]
         ensures { result.now ≡ self.now }
     {
-        &self.bytes[self.start..]
+        &self.bytes[self.start..self.end]
     }
 
     /// Uses the first bytes up.
@@ -60,8 +59,8 @@ impl Window {
         self.start += count;
     }
 
-    /// Takes more bytes from the source and answers how many; 0 exactly where none is left. No text
-    /// waits unsent when it is asked.
+    /// Takes more bytes from the source, to where they are read from, and answers how many; 0 exactly where
+    /// none is left. No text waits unsent when it is asked.
     pub fn fill<I: Source>(
         &mut self,
         source: &mut I,
@@ -75,28 +74,49 @@ impl Window {
         ensures end { IfOk result (λ n. n ≡ 0 → (self.new ≡ self.old) × IsAtEnd (I.left source.new)) }
         ensures cause { HasCause (I.faults source.old) (I.faults source.new) result }
     {
-        if self.bytes.len() > ROOM - CHUNK {
-            compact(&mut self.bytes, self.start);
-            self.start = 0;
-        }
         let nothing_waits = unsent.is_empty();
         prove!(nothing_waits);
-        let mut chunk = [0u8; CHUNK];
-        let count = source.read(&mut chunk)?;
-        let _ = self.bytes.extend_from_slice(&chunk[..count]);
+        let (start, end) = to_the_front(&mut self.bytes, self.start, self.end);
+        self.start = start;
+        self.end = end;
+        let count = read_behind(&mut self.bytes, self.end, source)?;
+        self.end += count;
         Ok(count)
     }
 }
 
-// Moves the bytes from a place on to the front. They are fewer than those before them.
-fn compact(bytes: &mut Vec<u8>, start: usize)
-    requires half { vec_len bytes.old ≤ 2 * start }
-    requires within { start ≤ vec_len bytes.old }
-    ensures items { bytes.new.items ≡ drop start bytes.old.items }
-    ensures capacity { vec_capacity bytes.old ≤ vec_capacity bytes.new }
+// Moves the bytes from `start` to `end` to the front, where they overlap nothing there, and answers where
+// they stand.
+fn to_the_front(bytes: &mut [u8], start: usize, end: usize) -> (usize, usize)
+    requires order { start ≤ end }
+    requires within { end ≤ length bytes.old }
+    ensures same { drop result.0 (take result.1 bytes.new) ≡ drop start (take end bytes.old) }
+    ensures order { result.0 ≤ result.1 }
+    ensures room { result.1 ≤ 2 * (end - start) }
 {
-    let count = bytes.len() - start;
+    let count = end - start;
+    if start < count {
+        return (start, end);
+    }
     let (front, back) = bytes.split_at_mut(start);
     front[..count].copy_from_slice(&back[..count]);
-    bytes.truncate(count);
+    (0, count)
+}
+
+// Takes bytes from the source to where they stand behind a place, and answers how many; 0 exactly where none
+// is left.
+fn read_behind<I: Source>(
+    bytes: &mut [u8],
+    place: usize,
+    source: &mut I,
+) -> Result<usize, SourceFault>
+    requires { place < length bytes.old }
+    ensures front { take place bytes.new ≡ take place bytes.old }
+    ensures room { IfOk result (λ n. place + n ≤ length bytes.new) }
+    ensures bytes { MatchResult result
+        (λ n. (I.left source.old ≡ prepend_known (take n (drop place bytes.new)) (I.left source.new)) × (n ≡ 0 → IsAtEnd (I.left source.new)))
+        (λ _. I.left source.new ≡ I.left source.old) }
+    ensures cause { HasCause (I.faults source.old) (I.faults source.new) result }
+{
+    source.read(&mut bytes[place..])
 }

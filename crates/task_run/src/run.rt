@@ -24,7 +24,8 @@ use std::alloc::Global;
 
 /// Runs a task over the lines of an input, one at a time, and writes its text. `maxt` is the bound that
 /// each execution keeps and that the last line prints. Each answer goes out before more input is asked
-/// for, so where a read fails, all lines that were taken whole have their answers. Memory is taken before the first line alone.
+/// for, so where a read fails, all lines that were taken whole have their answers. Memory is taken before
+/// the first line alone: where there is none, nothing was read or put.
 pub fn run_lines<C: Cpu, I: Source, O: Sink>(
     alloc: Global,
     cpu: &mut C,
@@ -47,6 +48,7 @@ pub fn run_lines<C: Cpu, I: Source, O: Sink>(
     ensures answered { result ≡ Err RunFault.Read → HasAnswered (plain_task task.now) (width_of is_in (plain_task task.now).cells) (I.left input.old) (I.left input.new) (O.holds out.old) (O.holds out.new) }
     ensures read { result ≡ Err RunFault.Read → Rose (I.faults input.old) (I.faults input.new) }
     ensures write { result ≡ Err RunFault.Write → Rose (O.faults out.old) (O.faults out.new) }
+    ensures memory { result ≡ Err RunFault.Memory → (input.new ≡ input.old) × (out.new ≡ out.old) }
     ensures later_in { I.faults input.old ≤ I.faults input.new }
     ensures later_out { O.faults out.old ≤ O.faults out.new }
 {
@@ -115,6 +117,7 @@ fn run_each<C: Cpu, I: Source, O: Sink>(
     ensures answered { result ≡ Err RunFault.Read → HasAnswered (plain_task task.now) (width_of is_in (plain_task task.now).cells) (I.left input.old) (I.left input.new) (O.holds out.old) (O.holds out.new) }
     ensures read { result ≡ Err RunFault.Read → Rose (I.faults input.old) (I.faults input.new) }
     ensures write { result ≡ Err RunFault.Write → Rose (O.faults out.old) (O.faults out.new) }
+    ensures memory { result ≡ Err RunFault.Memory → ⊥ }
     ensures later_in { I.faults input.old ≤ I.faults input.new }
     ensures later_out { O.faults out.old ≤ O.faults out.new }
 {

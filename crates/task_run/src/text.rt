@@ -31,9 +31,9 @@ pub fn write_outs<O: Sink>(
 
 // Sends what waits where so many bytes don't fit behind it.
 fn make_room<O: Sink>(buffer: &mut LineBuf, out: &mut O, need: usize) -> Result<(), SinkFault>
-    requires { need ≤ 4096 }
+    requires { need ≤ 65536 }
     ensures bytes { Writes (O.holds out.old) buffer.old [] (O.holds out.new) buffer.new result }
-    ensures room { OnOk result (length buffer.new + need ≤ 4096) }
+    ensures room { OnOk result (length buffer.new + need ≤ 65536) }
     ensures cause { HasCause (O.faults out.old) (O.faults out.new) result }
 {
     if buffer.room() < need {
@@ -44,7 +44,7 @@ fn make_room<O: Sink>(buffer: &mut LineBuf, out: &mut O, need: usize) -> Result<
 
 // Appends the line of words that fit.
 fn append_outs(buffer: &mut LineBuf, words: &[i32])
-    requires { length buffer.old + 12 * length words.now + 1 ≤ 4096 }
+    requires { length buffer.old + 12 * length words.now + 1 ≤ 65536 }
     ensures { buffer.new ≡ buffer.old ++ out_line words.now }
 {
     append_words(buffer, words);
@@ -53,7 +53,7 @@ fn append_outs(buffer: &mut LineBuf, words: &[i32])
 
 // Appends words with single blanks between them.
 fn append_words(buffer: &mut LineBuf, words: &[i32])
-    requires { length buffer.old + 12 * length words.now ≤ 4096 }
+    requires { length buffer.old + 12 * length words.now ≤ 65536 }
     ensures text { buffer.new ≡ buffer.old ++ words_text words.now }
     ensures room { length buffer.new ≤ length buffer.old + 12 * length words.now }
 {
@@ -66,7 +66,7 @@ fn append_words(buffer: &mut LineBuf, words: &[i32])
 
 // Appends a blank and a word, for each.
 fn append_tail(buffer: &mut LineBuf, words: &[i32])
-    requires { length buffer.old + 12 * length words.now ≤ 4096 }
+    requires { length buffer.old + 12 * length words.now ≤ 65536 }
     ensures text { buffer.new ≡ buffer.old ++ tail_text words.now }
     ensures room { length buffer.new ≤ length buffer.old + 12 * length words.now }
 {
