@@ -1,0 +1,4 @@
+pub mod Faults
+pub mod NetFacts
+pub mod Renamed
+pub mod Soundness
