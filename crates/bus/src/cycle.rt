@@ -1,7 +1,7 @@
 //! The bus of a cycle.
-ghost use Rattle.std.specs.Prelude.{◌≡◌, ◌<◌, ◌≤◌, ◌+◌, ◌*◌, ◌^◌, ℕ, length, List, ℤ, slice_set, IfOk, IfSome, Some, None};
+ghost use Rattle.std.specs.Prelude.{◌≡◌, ◌<◌, ◌≤◌, ◌+◌, ◌*◌, ◌^◌, ℕ, length, slice_set, IfOk, MatchOption, Some, None, IsTrue, ◌↔◌};
 ghost use Rattle.bus.specs.Numbers.{slot_number, slot_of};
-ghost use Rattle.bus.specs.SlotState.{Open as OpenState, StandsAt, IsSending, put, cut, whole, slot_at};
+ghost use Rattle.bus.specs.SlotState.{Open as OpenState, StandsAt, IsSending, AtMostOneSends, NoOtherSends, put, cut, whole, slot_at};
 ghost use Rattle.tdma.specs.Layout.{side_number};
 
 use crate::slots::Slots;
@@ -50,6 +50,7 @@ impl Bus {
         ensures layout { self.new.layout ≡ self.old.layout }
         ensures slots { self.new.slots ≡ slice_set self.old.slots (slot_number self.old.layout place.round place.unit place.side)
             (put self.old.layout.slot_words (slot_of self.old place.round place.unit place.side) word) }
+        ensures alone { NoOtherSends self.old.slots (slot_number self.old.layout place.round place.unit place.side) → AtMostOneSends self.new.slots }
     {
         let number = self.number(place.round, place.unit, place.side);
         self.slots.put(number, word);
@@ -62,17 +63,37 @@ impl Bus {
         requires sending { IsSending (slot_of self.old round unit side) }
         ensures layout { self.new.layout ≡ self.old.layout }
         ensures slots { self.new.slots ≡ slice_set self.old.slots (slot_number self.old.layout round unit side) (cut (slot_of self.old round unit side)) }
+        ensures alone { AtMostOneSends self.old.slots → AtMostOneSends self.new.slots }
     {
         let number = self.number(round, unit, side);
         self.slots.cut(number);
+    }
+
+    /// Whether a slot stands at this word: it is open and the word is its first, or it is sending and this is the
+    /// next one.
+    pub fn stands_at(&self, place: SlotPlace) -> bool
+        requires round { place.round < self.now.layout.rounds }
+        requires unit { place.unit < self.now.layout.units }
+        ensures { IsTrue result ↔ StandsAt (slot_of self.now place.round place.unit place.side) place.word }
+    {
+        let number = self.number(place.round, place.unit, place.side);
+        self.slots.stands_at(number, usize::from(place.word))
+    }
+
+    /// Whether a slot is sending: some of its words were put, and more are to come.
+    pub fn is_sending(&self, round: u32, unit: u8, side: Side) -> bool
+        requires round { round < self.now.layout.rounds }
+        requires unit { unit < self.now.layout.units }
+        ensures { IsTrue result ↔ IsSending (slot_of self.now round unit side) }
+    {
+        self.slots.is_sending(self.number(round, unit, side))
     }
 
     /// The words of a frame that was sent whole; None exactly where the slot isn't over or was cut.
     pub fn whole(&self, round: u32, unit: u8, side: Side) -> Option<&[i32]>
         requires round { round < self.now.layout.rounds }
         requires unit { unit < self.now.layout.units }
-        ensures some { (words : List ℤ) → whole (slot_of self.now round unit side) ≡ Some words → IfSome result (λ w. w.now ≡ words) }
-        ensures none { whole (slot_of self.now round unit side) ≡ None → result ≡ None }
+        ensures { MatchOption result (whole (slot_of self.now round unit side) ≡ None) (λ words. whole (slot_of self.now round unit side) ≡ Some words.now) }
     {
         self.slots.whole(self.number(round, unit, side))
     }

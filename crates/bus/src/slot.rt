@@ -117,6 +117,13 @@ impl Sending {
         }
     }
 
+    /// How many words were put.
+    pub fn count(&self) -> usize
+        ensures { result ≡ length self.now.words }
+    {
+        self.count
+    }
+
     /// Ends the slot before its last word.
     pub fn cut(self) -> Closed
         ensures { result ≡ record { width = self.width; whole = false; words = self.words } }

@@ -1,6 +1,6 @@
 //! The slots of a cycle by number.
-ghost use Rattle.std.specs.Prelude.{◌≡◌, ◌<◌, ℕ, length, List, ℤ, slice_set, IfOk, IfSome, Some, None, All};
-ghost use Rattle.bus.specs.SlotState.{Open as OpenState, put, cut, whole, slot_at};
+ghost use Rattle.std.specs.Prelude.{◌≡◌, ◌<◌, ℕ, length, slice_set, IfOk, MatchOption, Some, None, All, IsTrue, ◌↔◌};
+ghost use Rattle.bus.specs.SlotState.{Open as OpenState, StandsAt, IsSending, put, cut, whole, slot_at};
 ghost use Rattle.bus.specs.Slots.{slot_state, HasRoom};
 
 use crate::slot::{Open, Slot};
@@ -64,11 +64,30 @@ impl Slots {
         self.slots[slot] = old.cut();
     }
 
+    /// Whether a slot stands at this word.
+    pub(crate) fn stands_at(&self, slot: usize, word: usize) -> bool
+        requires { slot < length self.now.slots }
+        ensures { IsTrue result ↔ StandsAt (slot_at self.now.slots slot) word }
+    {
+        match &self.slots[slot] {
+            Slot::Open(_) => word == 0,
+            Slot::Sending(sending) => sending.count() == word,
+            Slot::Closed(_) | Slot::Moved => false,
+        }
+    }
+
+    /// Whether a slot is sending.
+    pub(crate) fn is_sending(&self, slot: usize) -> bool
+        requires { slot < length self.now.slots }
+        ensures { IsTrue result ↔ IsSending (slot_at self.now.slots slot) }
+    {
+        matches!(&self.slots[slot], Slot::Sending(_))
+    }
+
     /// The words of a slot that has them all.
     pub(crate) fn whole(&self, slot: usize) -> Option<&[i32]>
         requires { slot < length self.now.slots }
-        ensures some { (words : List ℤ) → whole (slot_at self.now.slots slot) ≡ Some words → IfSome result (λ w. w.now ≡ words) }
-        ensures none { whole (slot_at self.now.slots slot) ≡ None → result ≡ None }
+        ensures { MatchOption result (whole (slot_at self.now.slots slot) ≡ None) (λ words. whole (slot_at self.now.slots slot) ≡ Some words.now) }
     {
         match &self.slots[slot] {
             Slot::Closed(closed) => closed.whole(),
