@@ -1,0 +1,2 @@
+pub mod LawfulImage
+pub mod Reading

@@ -1,0 +1,2 @@
+pub mod Unverified
+pub mod Widths
