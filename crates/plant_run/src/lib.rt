@@ -1,0 +1,2 @@
+//! The run of a plant, for any processor: definitions alone.
+#![tactic(auto)]

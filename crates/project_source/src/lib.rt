@@ -1,0 +1,2 @@
+//! Source projects and what they mean: definitions alone.
+#![tactic(auto)]
