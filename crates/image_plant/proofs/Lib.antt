@@ -1,0 +1,12 @@
+pub mod Back
+pub mod JobNumbers
+pub mod SaidTasks
+pub mod Once
+pub mod Pigeons
+pub mod MessageKeys
+pub mod Ranges
+pub mod Small
+pub mod Codes
+pub mod Fits
+pub mod Fitting
+pub mod Made
