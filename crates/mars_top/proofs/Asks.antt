@@ -3,6 +3,7 @@ use Rattle.std.proofs.Common.{◌≡◌, ◌⊎◌, inl, inr, ◌∙◌, ap, ref
 use Rattle.mars_top.specs.Asked.{plain_asked}
 use Rattle.mars_top.specs.Command.{Command, Task, stage_of}
 use Rattle.mars_top.specs.Helpers.{Acts}
+use Rattle.mars_top.specs.Ran.{RanOf}
 use Rattle.mars_top.specs.Replies.{Replies}
 use Rattle.mars_top.specs.declared.asked.Asked.{Asked}
 use Rattle.refusals.proofs.CauseFacts.{caused_not_usage}
@@ -15,6 +16,7 @@ use Rattle.stages.specs.World.{Held, World}
 use Rattle.stages.proofs.ExactFacts.{exact}
 use Rattle.stages.proofs.Relations as fact
 use Rattle.stages.proofs.Turns.{fails}
+use Rattle.task_command.specs.TaskRan.{IsRunStatus, TaskRan}
 use Rattle.task_command.proofs.TaskFacts.{lasts_tasking, refuses_tasking}
 
 -- what is performed for known words
@@ -69,3 +71,9 @@ replied (Some command) before now status answer is acts said = record {
 pub performed : (words asked : Option Command) (before now : World) (status : ℕ) (answer : Result (Unit {0}) Refusal) → asked ≡ words → status ≡ status_of_result answer → Acts asked before.held now.held before.counts now.counts answer
     → Said before.err now.err before.errors now.errors answer → Replies words before now status
 performed words asked before now status answer same is acts said = subst (λ (w : Option Command). Replies w before now status) same (replied asked before now status answer is acts said)
+
+-- what a command came to
+pub ran_as : (command : Option Command) (before now : World) (status : ℕ) → Replies command before now status → RanOf command before now status
+ran_as None before now status replies = tt
+ran_as (Some (Task file)) before now status replies = λ ends files input told left.
+    subst (λ (s : ℕ). TaskRan file files input before.held.out now.held.out s) (sym replies.status_is) (replies.promises.ran (subst IsRunStatus replies.status_is ends) files input told left)

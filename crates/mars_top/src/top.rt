@@ -3,6 +3,7 @@ ghost use Rattle.std.specs.Prelude.{◌≡◌, ◌↔◌, None, map, string_byte
 ghost use Rattle.mars_top.specs.Asked.{plain_asked};
 ghost use Rattle.mars_top.specs.Command.{command_of};
 ghost use Rattle.mars_top.specs.Helpers.{Acts};
+ghost use Rattle.mars_top.specs.Ran.{RanOf};
 ghost use Rattle.mars_top.specs.Replies.{Replies};
 ghost use Rattle.refusals.specs.Causes.{counts};
 ghost use Rattle.stages.specs.World.{held, world};
@@ -29,6 +30,12 @@ pub fn mars<H: Shelf, I: Source, O: Sink, E: Sink>(
 ) -> u8
     ensures usage { (result ≡ 2) ↔ (command_of (map string_bytes words.now) ≡ None) }
     ensures replies { Replies (command_of (map string_bytes words.now))
+        (world (held (H.holds shelf.old) (I.left input.old) (O.holds out.old))
+        (counts (H.failed_reads shelf.old) (H.failed_writes shelf.old) (I.faults input.old) (O.faults out.old)) (E.holds err.old) (E.faults err.old))
+        (world (held (H.holds shelf.new) (I.left input.new) (O.holds out.new))
+        (counts (H.failed_reads shelf.new) (H.failed_writes shelf.new) (I.faults input.new) (O.faults out.new)) (E.holds err.new) (E.faults err.new))
+        result }
+    ensures ran { RanOf (command_of (map string_bytes words.now))
         (world (held (H.holds shelf.old) (I.left input.old) (O.holds out.old))
         (counts (H.failed_reads shelf.old) (H.failed_writes shelf.old) (I.faults input.old) (O.faults out.old)) (E.holds err.old) (E.faults err.old))
         (world (held (H.holds shelf.new) (I.left input.new) (O.holds out.new))

@@ -1,3 +1,4 @@
+pub mod Meaning
 pub mod Ran
 pub mod RunFacts
 pub mod TaskFacts

@@ -10,7 +10,7 @@ use Rattle.refusals.specs.declared.refusal.Refusal.TheVariants as refusal
 use Rattle.stages.specs.Stage.{Does}
 use Rattle.stages.specs.World.{Held}
 use Rattle.task_command.specs.Helpers.{refusal_of}
-use Rattle.task_command.specs.Running.{running, input_lines, execution, Stops, NoMemory, ReadFailed, PutFailed}
+use Rattle.task_command.specs.Running.{running, input_lines, execution, NoMemory, ReadFailed, PutFailed}
 use Rattle.task_run.specs.Progress.{RunAnswers, HasAnswered}
 use Rattle.task_run.specs.Text.{Finished, BadLine, Broken}
 use Rattle.task_run.specs.declared.fault.RunFault.{RunFault}

@@ -1,5 +1,5 @@
 -- What holds of every run of the command `task`.
-use Rattle.std.proofs.Common.{◌≡◌, ◌⊎◌, inl, inr, ℕ, List, Some, None, Result, Ok, Err, sym, ap, ◌∙◌, subst, arith}
+use Rattle.std.proofs.Common.{◌≡◌, ◌⊎◌, inl, inr, ℕ, List, Some, Result, Ok, Err, sym, ap, ◌∙◌, subst, arith}
 use Rattle.std.specs.Io.KnownBytes.{IsAtEnd}
 use Rattle.mars_base.specs.Causes.{Rose}
 use Rattle.mc_tree.specs.Tree.{Tree}
@@ -17,6 +17,7 @@ use Rattle.stages.proofs.Turns.{not_err}
 use Rattle.stages.proofs.WithinFacts.{within_turn, within_does, files_kept, out_kept, refuses_turn}
 use Rattle.task_command.specs.Running.{running, answer_of, Stops, NoMemory, ReadFailed, PutFailed}
 use Rattle.task_command.specs.Task.{tasking, TaskPromises}
+use Rattle.task_command.proofs.Meaning.{ran_of}
 use Rattle.task_command.proofs.RunFacts.{files_running, lasts_running, refuses_running}
 use Rattle.task_run.specs.Text.{Ending, Finished, BadLine, Broken}
 use Rattle.mc_tree.specs.Plain.{plain_task}
@@ -75,4 +76,5 @@ promises file b n c d r writes does = record {
   at_end = at_end_of file b n c d r does;
   missing = λ missing. refused_does (refusal.ReadFault (Some file)) (tasking file) (refused_turn b (refusal.ReadFault (Some file)) (built file) (λ b. running (plain_task b.task) (code_of b.task) b.maxt) (missing_built file b missing)) does;
   unread = unread_of file b n c d r does;
+  ran = ran_of file b n c d r does;
 }

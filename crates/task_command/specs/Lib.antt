@@ -1,3 +1,4 @@
 pub mod Helpers
 pub mod Running
 pub mod Task
+pub mod TaskRan
