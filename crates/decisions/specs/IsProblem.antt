@@ -18,7 +18,6 @@ pub record IsWork (pr : Problem) (job : ℕ) : Type 0 where
   pub task : (work_at pr job).task < 64
   pub ticks : 1 ≤ (work_at pr job).length
   pub deadline : (work_at pr job).deadline ≤ cycle_ticks pr.round
-  pub remaining : (work_at pr job).remaining < 2 ^ 63
   pub units : (work_at pr job).units < 2 ^ pr.round.units
   pub feeds : length (work_at pr job).feeds ≤ 16
 

@@ -124,7 +124,7 @@ equal_test a b h = grind arith
 both_same : (unit round u k : ℕ) → ((unit == u) && (round == k)) ≡ true → (unit ≡ u) × (round ≡ k)
 both_same unit round u k h = let g = both_tests (unit == u) (round == k) h in (equal_test unit u g.0, equal_test round k g.1)
 
-find_in : (p : Decision → Bool) (l : List Decision) (d : Decision) → find p l ≡ Some d → In l d × (p d ≡ true)
+pub find_in : (p : Decision → Bool) (l : List Decision) (d : Decision) → find p l ≡ Some d → In l d × (p d ≡ true)
 find_in p [] d h = absurd (cc)
 find_in p (x ∷ l) d h = find_in_by p x l d (p x) refl h (find_in p l d)
 

@@ -1,0 +1,289 @@
+-- What feeds a job, and where it starts.
+use Rattle.std.proofs.Common.{◌≡◌, ℕ, zero, suc, ◌+◌, ◌-◌, ◌<◌, ◌≤◌, ◌⊎◌, inl, inr, Bool, true, false, not, ◌&&◌, ◌||◌, leb, max, if◌then◌else◌, List, [], ◌∷◌, ◌++◌, length, get_or, drop, Option, Some, None, refl, sym, ap, ◌∙◌, subst, arith, leb-true, leb-false, le-leb, ◌*◌, mul-le-mul_right}
+use Rattle.std.specs.Prelude.{◌==◌, slice_get, is_some, IfSome}
+use Rattle.std.specs.List.{list_all}
+use Rattle.std.proofs.Math.Seq.{drop-cons}
+use Rattle.std.proofs.lemmas.Option.{slice_get-get_or}
+use Rattle.mars_base.specs.declared.shape.Side.TheVariants.{A}
+use Rattle.tdma.specs.Layout.{Layout, IsLayout, slot_start_of, usable_of}
+use Rattle.tdma.proofs.Places.{round_some}
+use Rattle.tdma.specs.Load.{Load, taken_in, IsFirstRoom}
+use Rattle.decisions.specs.declared.placed.Sent.{Sent}
+use Rattle.decisions.specs.declared.placed.Ticks.{Ticks}
+use Rattle.decisions.specs.declared.problem.Feed.{Feed}
+use Rattle.decisions.specs.declared.problem.Problem.{Problem}
+use Rattle.decisions.specs.Decision.{Decision, work_at, decision_on}
+use Rattle.decisions.specs.Place.{words_sent, taken_before, Waiting, has_room, first_room, sent_in, sent_over, fed_by, fed, ticks_on, is_free, first_free, decided, placed_after, place}
+use Rattle.decisions.specs.Choices.{is_placed, is_ready, is_allowed, is_home}
+use Rattle.decisions.specs.IsProblem.{IsProblem}
+use Rattle.reached.proofs.Good.{on_is, IsGood}
+use Rattle.placement.specs.declared.pending.Spot.{Spot}
+use Rattle.placement.specs.Feeding.{spot_of, unit_at, is_unit, sent_from, fed_from, behind, passed}
+use Rattle.placement.specs.Held.{HasWords}
+use Rattle.placement.specs.Loads.{HasRoomFor, IsFirstFor}
+
+-- a feed by the spot of its producer
+pub fed_spot : (pr : Problem) (l : List Decision) (unit : ℕ) (w : Waiting) (feed : Feed) (o : Option Decision) → fed_from pr l unit w feed (spot_of o) ≡ fed_by pr l unit w feed o
+fed_spot pr l unit w feed None = refl
+fed_spot pr l unit w feed (Some d) = refl
+
+fed_one : (pr : Problem) (l : List Decision) (unit : ℕ) (feeds : List Feed) (i : ℕ) (d : Feed) (w : Waiting) → i < length feeds → fed pr l unit (drop i feeds) (Some w) ≡ fed pr l unit (drop (suc i) feeds) (fed_by pr l unit w (get_or feeds i d) (decision_on l (get_or feeds i d).producer))
+fed_one pr l unit feeds i d w low = ap (λ fs. fed pr l unit fs (Some w)) (drop-cons feeds i d low)
+
+-- one feed more
+pub fed_step : (pr : Problem) (l : List Decision) (unit : ℕ) (feeds : List Feed) (i j : ℕ) (feed : Feed) (w : Waiting) (o : Option Waiting) (spot : Option Spot) → j ≡ i + 1 → i < length feeds → feed ≡ get_or feeds i feed → spot ≡ spot_of (decision_on l feed.producer)
+    → o ≡ fed_from pr l unit w feed spot → fed pr l unit (drop j feeds) o ≡ fed pr l unit (drop i feeds) (Some w)
+fed_step pr l unit feeds i j feed w o spot e low at s f =
+    let n : suc i ≡ j = omega arith in
+    let by : o ≡ fed_by pr l unit w feed (decision_on l feed.producer) = f ∙ (ap (fed_from pr l unit w feed) s ∙ fed_spot pr l unit w feed (decision_on l feed.producer)) in
+    ap (λ k. fed pr l unit (drop k feeds) o) (sym n)
+    ∙ (ap (fed pr l unit (drop (suc i) feeds)) (by ∙ ap (λ (x : Feed). fed_by pr l unit w x (decision_on l x.producer)) at) ∙ sym (fed_one pr l unit feeds i feed w low))
+
+fed_none : (pr : Problem) (l : List Decision) (unit : ℕ) (feeds : List Feed) → fed pr l unit feeds None ≡ None
+fed_none pr l unit [] = refl
+fed_none pr l unit (feed ∷ feeds) = refl
+
+-- a feed for which there is no frame
+pub fed_stop : (pr : Problem) (l : List Decision) (unit : ℕ) (feeds : List Feed) (i : ℕ) (feed : Feed) (w : Waiting) (spot : Option Spot) → i < length feeds → feed ≡ get_or feeds i feed → spot ≡ spot_of (decision_on l feed.producer)
+    → None ≡ fed_from pr l unit w feed spot → None ≡ fed pr l unit (drop i feeds) (Some w)
+fed_stop pr l unit feeds i feed w spot low at s f =
+    sym (fed_none pr l unit (drop (i + 1) feeds)) ∙ fed_step pr l unit feeds i (i + 1) feed w None spot refl low at s f
+
+-- a producer's unit is one of the cluster's
+pub spot_unit : (pr : Problem) (l : List Decision) (job : ℕ) (o : Option Decision) → IsGood pr l → decision_on l job ≡ o → (s : Spot) → spot_of o ≡ Some s → s.unit < pr.round.units
+spot_unit pr l job None g e s h = absurd (cc)
+spot_unit pr l job (Some d) g e s h =
+    let i = on_is l job d e in
+    let k = g.kept d i.0 in
+    let z : Spot = record { unit = d.unit; end = d.end } in
+    let q : z ≡ s = cc in
+    subst (λ (x : Spot). x.unit < pr.round.units) q k.is_unit
+
+pub home_is : (unit : ℕ) (o : Option Decision) → is_unit unit (unit_at (spot_of o)) ≡ is_home unit o
+home_is unit None = refl
+home_is unit (Some d) = refl
+
+pub placed_is : (o : Option Decision) → is_some (spot_of o) ≡ is_some o
+placed_is None = refl
+placed_is (Some d) = refl
+
+both : (a b : Bool) → a ≡ true → b ≡ true → (a && b) ≡ true
+both a b h g = rw (h, g) refl
+
+halves : (a b : Bool) → (a && b) ≡ true → (a ≡ true) × (b ≡ true)
+halves true b h = (refl, h)
+halves false b h = absurd (cc)
+
+-- the first round with room, by what the frames have
+room_test : (pr : Problem) (l : List Decision) (ms : List Sent) (f : Load) (unit from words k : ℕ) → HasWords pr l f → unit < pr.round.units → k < pr.round.rounds → HasRoomFor f ms unit from words k → has_room pr l ms unit from words k ≡ true
+room_test pr l ms f unit from words k h u low r =
+    let e : slot_start_of f.layout k unit A ≡ slot_start_of pr.round k unit A = ap (λ (x : Layout). slot_start_of x k unit A) h.layout in
+    let w : f.layout.slot_words ≡ pr.round.slot_words = ap (λ (x : Layout). x.slot_words) h.layout in
+    let t = h.taken unit k u low in
+    both (leb from (slot_start_of pr.round k unit A)) (leb (taken_before l ms unit k + words) pr.round.slot_words)
+    (le-leb from (slot_start_of pr.round k unit A) (omega (arith, r.begins))) (le-leb (taken_before l ms unit k + words) pr.round.slot_words (omega (arith, r.fits)))
+
+room_back : (pr : Problem) (l : List Decision) (ms : List Sent) (f : Load) (unit from words k : ℕ) → HasWords pr l f → unit < pr.round.units → k < pr.round.rounds → has_room pr l ms unit from words k ≡ true → HasRoomFor f ms unit from words k
+room_back pr l ms f unit from words k h u low b =
+    let e : slot_start_of f.layout k unit A ≡ slot_start_of pr.round k unit A = ap (λ (x : Layout). slot_start_of x k unit A) h.layout in
+    let w : f.layout.slot_words ≡ pr.round.slot_words = ap (λ (x : Layout). x.slot_words) h.layout in
+    let n : f.layout.rounds ≡ pr.round.rounds = ap (λ (x : Layout). x.rounds) h.layout in
+    let t = h.taken unit k u low in
+    let p = halves (leb from (slot_start_of pr.round k unit A)) (leb (taken_before l ms unit k + words) pr.round.slot_words) b in
+    let begins = leb-true from (slot_start_of pr.round k unit A) p.0 in
+    let fits = leb-true (taken_before l ms unit k + words) pr.round.slot_words p.1 in
+    record { exists = omega arith; begins = omega arith; fits = omega arith }
+
+same_or : (k r : ℕ) → k ≤ r → (k ≡ r) ⊎ (k < r)
+same_or k r h = grind arith
+
+room_from : (pr : Problem) (l : List Decision) (ms : List Sent) (unit from words k m r : ℕ) → k ≤ r → r < k + m → has_room pr l ms unit from words r ≡ true → ((i : ℕ) → k ≤ i → i < r → has_room pr l ms unit from words i ≡ false) → first_room pr l ms unit from words k m ≡ Some r
+room_from pr l ms unit from words k zero r low high has hasnt = absurd (omega arith)
+room_from pr l ms unit from words k (suc m) r low high has hasnt = elim (same_or k r low) [
+  | inl e ↦ (let t : has_room pr l ms unit from words k ≡ true = subst (λ x. has_room pr l ms unit from words x ≡ true) (sym e) has in rw t (ap Some e))
+  | inr less ↦ (let t : has_room pr l ms unit from words k ≡ false = hasnt k (omega arith) less in rw t (room_from pr l ms unit from words (suc k) m r (omega arith) (omega arith) has (λ i a b. hasnt i (omega arith) b)))
+]
+
+room_never : (pr : Problem) (l : List Decision) (ms : List Sent) (unit from words k m : ℕ) → ((i : ℕ) → k ≤ i → i < k + m → has_room pr l ms unit from words i ≡ false) → first_room pr l ms unit from words k m ≡ None
+room_never pr l ms unit from words k zero hasnt = refl
+room_never pr l ms unit from words k (suc m) hasnt =
+    let t : has_room pr l ms unit from words k ≡ false = hasnt k (omega arith) (omega arith) in
+    rw t (room_never pr l ms unit from words (suc k) m (λ i a b. hasnt i (omega arith) (omega arith)))
+
+not_room : (b : Bool) → (b ≡ true → ⊥) → b ≡ false
+not_room true h = absurd (h refl)
+not_room false h = refl
+
+pub room_is : (pr : Problem) (l : List Decision) (ms : List Sent) (f : Load) (unit from words k : ℕ) → HasWords pr l f → unit < pr.round.units → IsFirstFor f ms unit from words k → first_room pr l ms unit from words 0 pr.round.rounds ≡ Some k
+room_is pr l ms f unit from words k h u r =
+    let n : f.layout.rounds ≡ pr.round.rounds = ap (λ (x : Layout). x.rounds) h.layout in
+    let low : k < pr.round.rounds = omega (arith, r.room.exists) in
+    room_from pr l ms unit from words 0 pr.round.rounds k (omega arith) (omega arith) (room_test pr l ms f unit from words k h u low r.room)
+    (λ i a b. not_room (has_room pr l ms unit from words i) (λ t. absurd (let g = r.least i (room_back pr l ms f unit from words i h u (omega arith) t) in omega arith)))
+
+pub room_none : (pr : Problem) (l : List Decision) (ms : List Sent) (f : Load) (unit from words : ℕ) → HasWords pr l f → unit < pr.round.units → ((k : ℕ) → HasRoomFor f ms unit from words k → ⊥) → first_room pr l ms unit from words 0 pr.round.rounds ≡ None
+room_none pr l ms f unit from words h u hasnt =
+    room_never pr l ms unit from words 0 pr.round.rounds (λ i a b. not_room (has_room pr l ms unit from words i) (λ t. hasnt i (room_back pr l ms f unit from words i h u (omega arith) t)))
+
+-- ticks of one decision more are in the way
+free_more : (d : Decision) (l : List Decision) (unit k n : ℕ) (b : Bool) → (d.unit == unit) ≡ b → is_free ((if b then (record { start = d.start; end = d.end }) ∷ [] else []) ++ ticks_on l unit) k n ≡ (if b then (leb d.end k || leb (k + n) d.start) && is_free (ticks_on l unit) k n else is_free (ticks_on l unit) k n)
+free_more d l unit k n true e = refl
+free_more d l unit k n false e = refl
+
+-- where ticks end up that are moved behind a list
+pub record IsMoved (l : List Decision) (unit start n next : ℕ) : Type 0 where
+  pub later : start ≤ next
+  pub taken : (k : ℕ) → start ≤ k → k < next → is_free (ticks_on l unit) k n ≡ false
+  pub free : next ≤ start → is_free (ticks_on l unit) start n ≡ true
+
+and_false : (a b : Bool) → b ≡ false → (a && b) ≡ false
+and_false true b h = h
+and_false false b h = refl
+
+false_and : (a b : Bool) → a ≡ false → (a && b) ≡ false
+false_and a b h = rw h refl
+
+neither : (a b : Bool) → (a || b) ≡ false → (a ≡ false) × (b ≡ false)
+neither true b h = absurd (cc)
+neither false b h = (refl, h)
+
+before_or : (k e : ℕ) → (k < e) ⊎ (e ≤ k)
+before_or k e = grind arith
+
+not_either : (e k m s : ℕ) → k < e → s < m → (leb e k || leb m s) ≡ false
+not_either e k m s a b = let x : leb e k ≡ false = grind arith in let y : leb m s ≡ false = grind arith in rw (x, y) refl
+
+-- one decision on the unit
+moved_here : (d : Decision) (l : List Decision) (unit start n next : ℕ) (c : Bool) → 1 ≤ n → (leb d.end start || leb (start + n) d.start) ≡ c → IsMoved l unit (if c then start else d.end) n next
+    → (start ≤ next) × ((k : ℕ) → start ≤ k → k < next → ((leb d.end k || leb (k + n) d.start) && is_free (ticks_on l unit) k n) ≡ false) × (next ≤ start → ((leb d.end start || leb (start + n) d.start) && is_free (ticks_on l unit) start n) ≡ true)
+moved_here d l unit start n next true some e m = (
+  m.later,
+  λ k a b. and_false (leb d.end k || leb (k + n) d.start) (is_free (ticks_on l unit) k n) (m.taken k a b),
+  λ h. rw (e, m.free h) refl,
+)
+moved_here d l unit start n next false some e m =
+    let o = neither (leb d.end start) (leb (start + n) d.start) e in
+    let a = leb-false d.end start o.0 in
+    let b = leb-false (start + n) d.start o.1 in (
+      omega (arith, m.later),
+      λ k low high. elim (before_or k d.end) [
+        | inl less ↦ false_and (leb d.end k || leb (k + n) d.start) (is_free (ticks_on l unit) k n) (not_either d.end k (k + n) d.start less (omega arith))
+        | inr more ↦ and_false (leb d.end k || leb (k + n) d.start) (is_free (ticks_on l unit) k n) (m.taken k more high)
+      ],
+      λ h. absurd (omega (arith, m.later)),
+    )
+
+moved_by : (d : Decision) (l : List Decision) (unit start n next : ℕ) (b : Bool) → 1 ≤ n → (d.unit == unit) ≡ b → IsMoved l unit (if b then (if leb d.end start || leb (start + n) d.start then start else d.end) else start) n next
+    → IsMoved (d ∷ l) unit start n next
+moved_by d l unit start n next true some e m =
+    let h = moved_here d l unit start n next (leb d.end start || leb (start + n) d.start) some refl m in
+    record { later = h.0; taken = λ k a b. rw e (h.1 k a b); free = λ le. rw e (h.2 le) }
+moved_by d l unit start n next false some e m = record { later = m.later; taken = λ k a b. rw e (m.taken k a b); free = λ le. rw e (m.free le) }
+
+pub moved : (l : List Decision) (unit start n : ℕ) → 1 ≤ n → IsMoved l unit start n (passed l unit start n)
+moved [] unit start n some = record { later = omega arith; taken = λ k a b. absurd (omega arith); free = λ h. refl }
+moved (d ∷ l) unit start n some = moved_by d l unit start n (passed l unit (behind d unit start n) n) (d.unit == unit) some refl (moved l unit (behind d unit start n) n some)
+
+skipped : (ts : List Ticks) (n s k m : ℕ) → ((i : ℕ) → s ≤ i → i < s + k → is_free ts i n ≡ false) → first_free ts n s m ≡ first_free ts n (s + k) (m - k)
+skipped ts n s zero m busy = let e : s + 0 ≡ s = omega arith in let f : m - 0 ≡ m = omega arith in rw (e, f) refl
+skipped ts n s (suc k) zero busy = let f : 0 - suc k ≡ 0 = omega arith in rw f refl
+skipped ts n s (suc k) (suc m) busy =
+    let t : is_free ts s n ≡ false = busy s (omega arith) (omega arith) in
+    let e : s + suc k ≡ suc s + k = omega arith in
+    let f : suc m - suc k ≡ m - k = omega arith in
+    rw (t, e, f) (skipped ts n (suc s) k m (λ i a b. busy i (omega arith) (omega arith)))
+
+-- the search for a free start goes on behind
+pub start_step : (l : List Decision) (unit n s d next : ℕ) → 1 ≤ n → next ≡ passed l unit s n → first_free (ticks_on l unit) n s (suc d - (s + n)) ≡ first_free (ticks_on l unit) n next (suc d - (next + n))
+start_step l unit n s d next some e =
+    let m = moved l unit s n some in
+    let k = next - s in
+    let a : s + k ≡ next = omega (arith, m.later) in
+    let b : suc d - (s + n) - k ≡ suc d - (next + n) = omega (arith, m.later) in
+    skipped (ticks_on l unit) n s k (suc d - (s + n)) (λ i x y. m.taken i x (omega (arith, m.later))) ∙ (rw (a, b) refl)
+
+pub start_found : (l : List Decision) (unit n s d next : ℕ) → 1 ≤ n → next ≡ passed l unit s n → next ≤ s → s + n ≤ d → Some s ≡ first_free (ticks_on l unit) n s (suc d - (s + n))
+start_found l unit n s d next some e le low =
+    let m = moved l unit s n some in
+    let t : is_free (ticks_on l unit) s n ≡ true = m.free (omega arith) in
+    let x : suc d - (s + n) ≡ suc (d - (s + n)) = omega arith in
+    rw (x, t) refl
+
+pub start_none : (l : List Decision) (unit n s d : ℕ) → d < s + n → None ≡ first_free (ticks_on l unit) n s (suc d - (s + n))
+start_none l unit n s d high = let x : suc d - (s + n) ≡ 0 = omega arith in rw x refl
+
+-- a job's decision, from what it waits for and its start
+fit_by : (pr : Problem) (l : List Decision) (job unit : ℕ) (o : Option Waiting) → o ≡ fed pr l unit (work_at pr job).feeds (Some (record { sent = []; wait = (work_at pr job).release })) → placed_after pr l job unit o ≡ place pr l job unit
+unfolding place
+fit_by pr l job unit o e = ap (placed_after pr l job unit) e
+
+pub fit_none : (pr : Problem) (l : List Decision) (job unit : ℕ) → None ≡ fed pr l unit (work_at pr job).feeds (Some (record { sent = []; wait = (work_at pr job).release })) → None ≡ place pr l job unit
+fit_none pr l job unit e = fit_by pr l job unit None e
+
+pub fit_start : (pr : Problem) (l : List Decision) (job unit : ℕ) (w : Waiting) (o : Option ℕ) → Some w ≡ fed pr l unit (work_at pr job).feeds (Some (record { sent = []; wait = (work_at pr job).release }))
+    → o ≡ first_free (ticks_on l unit) (work_at pr job).length w.wait (suc (work_at pr job).deadline - (w.wait + (work_at pr job).length)) → decided job unit (work_at pr job).length w.sent o ≡ place pr l job unit
+fit_start pr l job unit w o e f = ap (decided job unit (work_at pr job).length w.sent) f ∙ fit_by pr l job unit (Some w) e
+
+record IsBelow (s m t : ℕ) : Type 0 where
+  from : s ≤ t
+  below : t < s + m
+
+free_below_by : (ts : List Ticks) (n s m t : ℕ) (b : Bool) → (if b then Some s else first_free ts n (suc s) m) ≡ Some t → (first_free ts n (suc s) m ≡ Some t → IsBelow (suc s) m t) → IsBelow s (suc m) t
+free_below_by ts n s m t true h g = let e : s ≡ t = cc in record { from = omega arith; below = omega arith }
+free_below_by ts n s m t false h g = let r = g h in record { from = omega (arith, r.from); below = omega (arith, r.below) }
+
+-- a start ends by the deadline
+free_below : (ts : List Ticks) (n s m t : ℕ) → first_free ts n s m ≡ Some t → IsBelow s m t
+free_below ts n s zero t h = absurd (cc)
+free_below ts n s (suc m) t h = free_below_by ts n s m t (is_free ts s n) h (free_below ts n (suc s) m t)
+
+pub start_due : (ts : List Ticks) (n s d t : ℕ) → Some t ≡ first_free ts n s (suc d - (s + n)) → t + n ≤ d
+start_due ts n s d t h = let b = free_below ts n s (suc d - (s + n)) t (sym h) in omega (arith, b.from, b.below)
+
+-- a frame without room is passed over
+later_start : (l : Layout) (unit k next : ℕ) → IsLayout l → k < next → slot_start_of l k unit A + 1 ≤ slot_start_of l next unit A
+later_start l unit k next lay low =
+    let some : 0 < l.round_ticks = round_some l lay in
+    let more : (k + 1) * l.round_ticks ≤ next * l.round_ticks = mul-le-mul_right l.round_ticks (omega arith) in
+    omega (arith, more, some)
+
+room_is_first : (f : Load) (ms : List Sent) (unit from start words k : ℕ) → IsFirstRoom f unit start words k → from ≤ start → ((i : ℕ) → HasRoomFor f ms unit from words i → start ≤ slot_start_of f.layout i unit A) → (i : ℕ) → HasRoomFor f ms unit from words i → k ≤ i
+room_is_first f ms unit from start words k r le rest i h = r.least i (record { exists = h.exists; begins = rest i h; fits = omega (arith, h.fits) })
+
+pub first_for : (f : Load) (ms : List Sent) (unit from start words k : ℕ) → IsFirstRoom f unit start words k → from ≤ start → ((i : ℕ) → HasRoomFor f ms unit from words i → start ≤ slot_start_of f.layout i unit A) → taken_in f unit k + words_sent ms unit k + words ≤ f.layout.slot_words
+    → IsFirstFor f ms unit from words k
+first_for f ms unit from start words k r le rest fits = record {
+  room = record { exists = r.room.exists; begins = omega (arith, r.room.begins); fits = fits };
+  least = room_is_first f ms unit from start words k r le rest;
+}
+
+pub next_for : (f : Load) (ms : List Sent) (unit from start words k next : ℕ) → IsLayout f.layout → IsFirstRoom f unit start words k → from ≤ start → ((i : ℕ) → HasRoomFor f ms unit from words i → start ≤ slot_start_of f.layout i unit A)
+    → (taken_in f unit k + words_sent ms unit k + words ≤ f.layout.slot_words → ⊥) → next ≡ slot_start_of f.layout k unit A → (i : ℕ) → HasRoomFor f ms unit from words i → next + 1 ≤ slot_start_of f.layout i unit A
+next_for f ms unit from start words k next lay r le rest full e i h = elim (same_or k i (room_is_first f ms unit from start words k r le rest i h)) [
+  | inl s ↦ absurd (full (subst (λ x. taken_in f unit x + words_sent ms unit x + words ≤ f.layout.slot_words) (sym s) h.fits))
+  | inr low ↦ omega (arith, later_start f.layout unit k i lay low)
+]
+
+-- a message in the first round with room
+pub sent_is : (pr : Problem) (l : List Decision) (w : Waiting) (feed : Feed) (unit end round : ℕ) (sent : List Sent) (wait offset usable : ℕ) → first_room pr l w.sent unit end feed.words 0 pr.round.rounds ≡ Some round → offset ≡ taken_before l w.sent unit round
+    → sent ≡ w.sent ++ (record { edge = feed.edge; unit = unit; round = round; offset = offset; words = feed.words }) ∷ [] → usable ≡ usable_of pr.round round unit → wait ≡ max w.wait usable → Some (record { sent = sent; wait = wait }) ≡ sent_from pr l w feed unit end
+sent_is pr l w feed unit end round sent wait offset usable r o s u e = rw (r, s, e, o, u) refl
+
+pub sent_none : (pr : Problem) (l : List Decision) (w : Waiting) (feed : Feed) (unit end : ℕ) → first_room pr l w.sent unit end feed.words 0 pr.round.rounds ≡ None → None ≡ sent_from pr l w feed unit end
+sent_none pr l w feed unit end r = rw r refl
+
+if_some : (r : Option Spot) (P : Spot → Type 0) → ((s : Spot) → r ≡ Some s → P s) → IfSome r P
+if_some None P h = tt
+if_some (Some s) P h = h s refl
+
+pub unit_ok : (pr : Problem) (l : List Decision) (job : ℕ) (r : Option Spot) → IsGood pr l → r ≡ spot_of (decision_on l job) → IfSome r (λ (s : Spot). s.unit < pr.round.units)
+unit_ok pr l job r g e = if_some r (λ (s : Spot). s.unit < pr.round.units) (λ s h. spot_unit pr l job (decision_on l job) g refl s (sym e ∙ h))
+
+pub not_fits : (b : Bool) → b ≡ false → b ≡ true → ⊥
+not_fits b e h = let i : false ≡ true = sym e ∙ h in cc
+
+pub round_low : (pr : Problem) (l : List Decision) (f : Load) (ms : List Sent) (unit from words k : ℕ) → HasWords pr l f → IsFirstFor f ms unit from words k → k < pr.round.rounds
+round_low pr l f ms unit from words k h r = let n : f.layout.rounds ≡ pr.round.rounds = ap (λ (x : Layout). x.rounds) h.layout in omega (arith, r.room.exists)
+
+pub fit_some : (pr : Problem) (l : List Decision) (job unit : ℕ) (w : Waiting) → Some w ≡ fed pr l unit (work_at pr job).feeds (Some (record { sent = []; wait = (work_at pr job).release })) → placed_after pr l job unit (Some w) ≡ place pr l job unit
+fit_some pr l job unit w e = fit_by pr l job unit (Some w) e

@@ -1,0 +1,59 @@
+use Rattle.std.proofs.Common.{◌≡◌, ◌+◌, ◌<◌, ◌≤◌, length, refl, sym, ap, ◌∙◌, subst, arith}
+use Rattle.std.specs.Prelude.{vec_capacity}
+use Rattle.tdma.specs.Load.{taken_in}
+use Rattle.decisions.specs.Place.{words_sent}
+use Rattle.placement.specs.Feeding.{one_if}
+use Rattle.placement.specs.Held.{is_past}
+use Rattle.placement.specs.Loads.{AreInside, IsLoaded}
+use Rattle.placement.proofs.Holding.{next_chosen, sent_inside, sent_fits, push_holds}
+use Rattle.placement.proofs.moves.push.Goals as goal
+
+pub overflow_cast-place : goal.overflow_cast-place
+overflow_cast-place c =
+    let s = c.args.state.now in
+    let h = next_chosen s.problem s.placed.items c.args.placed c.requires.holds.reached c.requires.next in
+    omega (arith, h.room, c.requires.holds.is_problem.few, c.len-place.ensures)
+
+pub task_of-task-requires : goal.task_of-task-requires
+task_of-task-requires c = let s = c.args.state.now in (next_chosen s.problem s.placed.items c.args.placed c.requires.holds.reached c.requires.next).choice.is_job
+
+pub is_past-requires : goal.is_past-requires
+is_past-requires c = let s = c.args.state.now in (next_chosen s.problem s.placed.items c.args.placed c.requires.holds.reached c.requires.next).choice.is_job
+
+pub take_all-requires-clause-inside : goal.take_all-requires-clause-inside
+take_all-requires-clause-inside c =
+    let s = c.args.state.now in
+    let h = next_chosen s.problem s.placed.items c.args.placed c.requires.holds.reached c.requires.next in
+    subst (AreInside s.frames.layout) (sym c.sent.ensures.value) (sent_inside s.problem c.args.placed.sent s.frames.layout c.requires.holds.words.layout h.sent.framed)
+
+pub take_all-requires-clause-room : goal.take_all-requires-clause-room
+take_all-requires-clause-room c = λ unit round u r.
+    let s = c.args.state.now in
+    let h = next_chosen s.problem s.placed.items c.args.placed c.requires.holds.reached c.requires.next in
+    subst (λ ms. taken_in s.frames unit round + words_sent ms unit round ≤ s.frames.layout.slot_words) (sym c.sent.ensures.value)
+    (sent_fits s.problem s.placed.items c.args.placed.sent s.frames c.requires.holds.words h.sent unit round u r)
+
+pub set_place-requires : goal.set_place-requires
+set_place-requires c =
+    let s = c.args.state.now in
+    let h = next_chosen s.problem s.placed.items c.args.placed c.requires.holds.reached c.requires.next in
+    omega (arith, h.choice.is_job, c.requires.holds.jobs.size)
+
+pub note-requires : goal.note-requires
+note-requires c =
+    let s = c.args.state.now in
+    let h = next_chosen s.problem s.placed.items c.args.placed c.requires.holds.reached c.requires.next in
+    omega (arith, (c.requires.holds.is_problem.works c.args.placed.job h.choice.is_job).task, c.requires.holds.tasks.size, c.task_of-task.ensures)
+
+pub append-requires : goal.append-requires
+append-requires c =
+    let s = c.args.state.now in
+    let h = next_chosen s.problem s.placed.items c.args.placed c.requires.holds.reached c.requires.next in
+    omega (arith, h.room, c.requires.holds.room)
+
+pub returns-clause-holds : goal.returns-clause-holds
+returns-clause-holds c =
+    let s = c.args.state.now in
+    push_holds s _ c.args.placed c.len-place.result c.from-job.result c.task_of-task.result c.requires.holds c.requires.next
+    refl c.append.ensures.items c.append.ensures.room c.set_place.ensures c.note.ensures (subst (IsLoaded s.frames c.take_all.new.frames) c.sent.ensures.value c.take_all.ensures) refl
+    (ap (λ n. s.late + n) (c.one_if.ensures ∙ ap one_if c.is_past.ensures)) refl (omega (arith, c.len-place.ensures)) (c.from-job.ensures ∙ c.job.ensures) c.task_of-task.ensures

@@ -1,0 +1,55 @@
+use Rattle.std.proofs.Common.{◌≡◌, ◌+◌, ◌-◌, ◌<◌, ◌≤◌, length, refl, sym, ap, ◌∙◌, subst, arith}
+use Rattle.std.specs.Prelude.{vec_capacity}
+use Rattle.tdma.specs.Load.{taken_in}
+use Rattle.decisions.specs.Place.{words_sent}
+use Rattle.placement.specs.Feeding.{one_if}
+use Rattle.placement.specs.Held.{is_past}
+use Rattle.placement.specs.Loads.{AreInside, IsLoaded}
+use Rattle.placement.proofs.Holding.{undone_chosen, sent_inside, undone_taken, undone_late, undo_holds}
+use Rattle.placement.proofs.moves.undo.Goals as goal
+
+pub overflow_cast-place : goal.overflow_cast-place
+overflow_cast-place c =
+    let h = undone_chosen c.args.state.now c.pop.new.self.items c.in-Some.placed c.requires c.in-Some.ensures.items in
+    omega (arith, h.1.room, c.requires.is_problem.few, c.len-place.ensures)
+
+pub task_of-task-requires : goal.task_of-task-requires
+task_of-task-requires c = (undone_chosen c.args.state.now c.pop.new.self.items c.in-Some.placed c.requires c.in-Some.ensures.items).1.choice.is_job
+
+pub is_past-requires : goal.is_past-requires
+is_past-requires c = (undone_chosen c.args.state.now c.pop.new.self.items c.in-Some.placed c.requires c.in-Some.ensures.items).1.choice.is_job
+
+pub overflow_sub-late : goal.overflow_sub-late
+overflow_sub-late c =
+    let l = undone_late c.args.state.now c.pop.new.self.items c.in-Some.placed c.requires c.in-Some.ensures.items in
+    let e = c.one_if.ensures ∙ ap one_if c.is_past.ensures in
+    omega (arith, l.0, e)
+
+pub set_place-requires : goal.set_place-requires
+set_place-requires c =
+    let h = undone_chosen c.args.state.now c.pop.new.self.items c.in-Some.placed c.requires c.in-Some.ensures.items in
+    omega (arith, h.1.choice.is_job, c.requires.jobs.size)
+
+pub forget-requires : goal.forget-requires
+forget-requires c =
+    let h = undone_chosen c.args.state.now c.pop.new.self.items c.in-Some.placed c.requires c.in-Some.ensures.items in
+    omega (arith, (c.requires.is_problem.works c.in-Some.placed.job h.1.choice.is_job).task, c.requires.tasks.size, c.task_of-task.ensures)
+
+pub give_all-requires-clause-inside : goal.give_all-requires-clause-inside
+give_all-requires-clause-inside c =
+    let s = c.args.state.now in
+    let h = undone_chosen s c.pop.new.self.items c.in-Some.placed c.requires c.in-Some.ensures.items in
+    subst (AreInside s.frames.layout) (sym c.sent.ensures.value) (sent_inside s.problem c.in-Some.placed.sent s.frames.layout c.requires.words.layout h.1.sent.framed)
+
+pub give_all-requires-clause-taken : goal.give_all-requires-clause-taken
+give_all-requires-clause-taken c = λ unit round u r.
+    let s = c.args.state.now in
+    subst (λ ms. words_sent ms unit round ≤ taken_in s.frames unit round) (sym c.sent.ensures.value)
+    (undone_taken s c.pop.new.self.items c.in-Some.placed c.requires c.in-Some.ensures.items unit round u r)
+
+pub returns-clause-holds : goal.returns-clause-holds
+returns-clause-holds c =
+    let s = c.args.state.now in
+    undo_holds s _ c.in-Some.placed c.len-place.result c.from-job.result c.task_of-task.result c.requires
+    refl c.in-Some.ensures.items (omega (arith, c.in-Some.ensures.capacity)) c.set_place.ensures c.forget.ensures (subst (IsLoaded c.give_all.new.frames s.frames) c.sent.ensures.value c.give_all.ensures) refl
+    (ap (λ n. s.late - n) (c.one_if.ensures ∙ ap one_if c.is_past.ensures)) refl (omega (arith, c.len-place.ensures)) (c.from-job.ensures ∙ c.job.ensures) c.task_of-task.ensures

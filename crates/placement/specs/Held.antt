@@ -1,0 +1,52 @@
+-- A list of decisions as its callers see it, and what is kept beside it.
+use Rattle.std.specs.Prelude.{◌≡◌, ℕ, zero, suc, ◌+◌, ◌-◌, ◌<◌, ◌≤◌, ◌==◌, ◌||◌, not, leb, Bool, false, List, length, position, slice_get, count_by, Option, Some, vec_capacity}
+use Rattle.tdma.specs.Load.{Load, taken_in}
+use Rattle.decisions.specs.declared.problem.Problem.{Problem}
+use Rattle.decisions.specs.Decision.{Decision, work_at}
+use Rattle.decisions.specs.Place.{words_taken}
+use Rattle.decisions.specs.Choices.{by_start, IsReached}
+use Rattle.decisions.specs.IsProblem.{IsProblem}
+use Rattle.placement.specs.declared.state.State.{State}
+
+-- what is to be placed, and the decisions so far
+pub record Held : Type 0 where
+  pub problem : Problem
+  pub list : List Decision
+
+-- the place of the first decision on a job, and of the first on a task
+abbrev pub place_of_job : List Decision → (job : ℕ) → Option ℕ
+place_of_job l job = position (λ (d : Decision). d.job == job) l
+
+abbrev pub place_of_task : Problem → List Decision → (task : ℕ) → Option ℕ
+place_of_task pr l task = position (λ (d : Decision). (work_at pr d.job).task == task) l
+
+-- the job starts after its latest start
+abbrev pub is_past : Problem → Decision → Bool
+is_past pr d = not (leb (d.start + (work_at pr d.job).remaining) (work_at pr d.job).deadline)
+
+-- one of the jobs below n has its latest start before its release
+abbrev pub is_hopeless : Problem → (n : ℕ) → Bool
+is_hopeless pr zero = false
+is_hopeless pr (suc job) = not (leb ((work_at pr job).release + (work_at pr job).remaining) (work_at pr job).deadline) || is_hopeless pr job
+
+-- a table has the place for each number below n
+pub record HasPlaces (table : List (Option ℕ)) (n : ℕ) (place_of : ℕ → Option ℕ) : Type 0 where
+  pub size : length table ≡ n
+  pub each : (k : ℕ) → k < n → slice_get table k ≡ Some (place_of k)
+
+-- each frame has the words that are taken in it
+pub record HasWords (pr : Problem) (l : List Decision) (f : Load) : Type 0 where
+  pub layout : f.layout ≡ pr.round
+  pub taken : (unit round : ℕ) → unit < pr.round.units → round < pr.round.rounds → taken_in f unit round ≡ words_taken l unit round
+
+-- all that is kept beside the list
+pub record Holds (s : State) : Type 0 where
+  pub is_problem : IsProblem s.problem
+  pub reached : IsReached s.problem s.placed.items
+  pub room : length s.problem.works ≤ vec_capacity s.placed
+  pub jobs : HasPlaces s.places.items (length s.problem.works) (place_of_job s.placed.items)
+  pub tasks : HasPlaces s.homes.items 64 (place_of_task s.problem s.placed.items)
+  pub words : HasWords s.problem s.placed.items s.frames
+  pub order_is : s.order.items ≡ by_start s.problem (length s.problem.works)
+  pub late_is : s.late ≡ count_by (is_past s.problem) s.placed.items
+  pub hopeless_is : s.hopeless ≡ is_hopeless s.problem (length s.problem.works)

@@ -1,0 +1,4 @@
+pub mod Choosing
+pub mod Feeding
+pub mod Held
+pub mod Loads
