@@ -1,0 +1,2 @@
+pub mod GraphedFacts
+pub mod GraphSteps
