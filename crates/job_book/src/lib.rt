@@ -4,3 +4,6 @@
 pub mod book;
 
 pub use book::JobBook;
+
+#[cfg(test)]
+mod tests;
