@@ -3,6 +3,7 @@
 
 pub mod cursor;
 mod fits;
+mod into_tables;
 mod latest;
 mod moves;
 pub mod pending;
@@ -10,7 +11,6 @@ mod places;
 pub mod prefix;
 mod rooms;
 pub mod state;
-mod tables;
 
 pub use cursor::Cursor;
 pub use prefix::Prefix;

@@ -1,9 +1,9 @@
 //! A list of decisions that grows and shrinks at its end.
 use crate::cursor::{Cursor, first, next};
 use crate::fits::fit;
+use crate::into_tables::tables_of;
 use crate::moves::{empty, push, undo};
 use crate::state::State;
-use crate::tables::tables_of;
 use decisions::Choice;
 use graph::{Graph, Net};
 use mars_base::Memory;

@@ -2,7 +2,7 @@ use Rattle.std.proofs.Common.{◌≡◌, sym, ap, ◌∙◌, ap₂}
 use Rattle.placement.specs.Feeding.{place_in}
 use Rattle.reached.proofs.Good.{good}
 use Rattle.placement.proofs.Finding.{job_found}
-use Rattle.placement.proofs.tables.decision_on.Goals as goal
+use Rattle.placement.proofs.into_tables.decision_on.Goals as goal
 
 pub returns : goal.returns
 returns c =
