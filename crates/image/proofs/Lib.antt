@@ -1,0 +1,4 @@
+pub mod TaskPlaces
+pub mod Encoded
+pub mod Settled
+pub mod Judged
