@@ -1,11 +1,12 @@
 -- A command as it was given, and what holds of every command.
 use Rattle.std.proofs.Common.{◌≡◌, ◌⊎◌, inl, inr, ◌∙◌, ap, refl, sym, subst, ℕ, Option, None, Some, Result, Ok, Err, arith}
 use Rattle.mars_top.specs.Asked.{plain_asked}
-use Rattle.mars_top.specs.Command.{Command, Task, stage_of}
+use Rattle.mars_top.specs.Command.{Command, Plan, Task, stage_of}
 use Rattle.mars_top.specs.Helpers.{Acts}
 use Rattle.mars_top.specs.Ran.{RanOf}
 use Rattle.mars_top.specs.Replies.{Replies}
 use Rattle.mars_top.specs.declared.asked.Asked.{Asked}
+use Rattle.plan_command.proofs.PlanFacts.{lasts_planning, refuses_planning}
 use Rattle.refusals.proofs.CauseFacts.{caused_not_usage}
 use Rattle.refusals.specs.Causes.{Counts, Caused}
 use Rattle.refusals.specs.Said.{Said}
@@ -26,6 +27,7 @@ acts_as given known b n c d r is acts = subst (λ (k : Asked). Acts (plain_asked
 -- every command is sound
 lasts : (command : Command) → fact.Lasts (stage_of command)
 lasts (Task file) = lasts_tasking file
+lasts (Plan project budget) = lasts_planning project budget
 
 -- no command answers that the words are none
 abbrev NoUsage : Refusal → Type 0
@@ -33,6 +35,7 @@ NoUsage e = status_of e ≡ 2 → ⊥
 
 never_meant : (command : Command) → fact.Refuses NoUsage (stage_of command)
 never_meant (Task file) = refuses_tasking NoUsage file (λ e. omega (arith, e)) (λ e. omega (arith, e)) (λ f e. omega (arith, e)) (λ n e. omega (arith, e)) (λ e. omega (arith, e))
+never_meant (Plan project budget) = refuses_planning NoUsage project budget (λ name e. omega (arith, e)) (λ name e. omega (arith, e)) (λ f e. omega (arith, e)) (λ e. omega (arith, e)) (λ e. omega (arith, e))
 
 never_two : (command : Command) (b n : Held) (c d : Counts) (r : Result (Unit {0}) Refusal) → Does (stage_of command) b n c d r → status_of_result r ≡ 2 → ⊥
 never_two command b n c d (Ok u) does is = omega (arith, is)
@@ -75,5 +78,6 @@ performed words asked before now status answer same is acts said = subst (λ (w 
 -- what a command came to
 pub ran_as : (command : Option Command) (before now : World) (status : ℕ) → Replies command before now status → RanOf command before now status
 ran_as None before now status replies = tt
+ran_as (Some (Plan project budget)) before now status replies = tt
 ran_as (Some (Task file)) before now status replies = λ ends files input told left.
     subst (λ (s : ℕ). TaskRan file files input before.held.out now.held.out s) (sym replies.status_is) (replies.promises.ran (subst IsRunStatus replies.status_is ends) files input told left)

@@ -1,7 +1,11 @@
 //! What the words after the program's name ask for.
 ghost use Rattle.std.specs.Prelude.{◌≡◌, map, string_bytes};
+ghost use Rattle.std.specs.Option.{option_map};
 ghost use Rattle.mars_top.specs.Asked.{plain_asked};
-ghost use Rattle.mars_top.specs.Command.{command_of};
+ghost use Rattle.budgets.specs.Budget.{budget_of};
+ghost use Rattle.mars_top.specs.Command.{Plan, command_of};
+
+use budgets::budget_of;
 
 /// What words ask for: a command with the names that it was given, or nothing.
 #[derive(Clone, Copy, Debug)]
@@ -10,6 +14,8 @@ pub enum Asked<'a> {
     Nothing,
     /// `task FILE`.
     Task { file: &'a str },
+    /// `plan PROJECT BUDGET`.
+    Plan { project: &'a str, budget: u32 },
 }
 
 /// The command of the words; Nothing exactly where they are none.
@@ -26,6 +32,23 @@ pub fn read_words(words: &[String]) -> Asked<'_>
                 Asked::Nothing
             }
         }
+        [word, project, budget] => {
+            if word.as_str() == "plan" {
+                read_plan(project.as_str(), budget.as_str())
+            } else {
+                Asked::Nothing
+            }
+        }
         _ => Asked::Nothing,
+    }
+}
+
+// `plan` with these names, where the second is a budget.
+fn read_plan<'a>(project: &'a str, budget: &str) -> Asked<'a>
+    ensures { plain_asked result ≡ option_map (λ n. Plan project.now n) (budget_of budget.now) }
+{
+    match budget_of(budget.as_bytes()) {
+        Some(budget) => Asked::Plan { project, budget },
+        None => Asked::Nothing,
     }
 }

@@ -4,6 +4,7 @@
 pub mod asked;
 pub mod top;
 
+pub use plan_command::run_plan;
 pub use refusals::{Fault, ImageBad, Place, ProjectKind, Refusal, Section, say, status};
 pub use task_command::run_task;
 pub use top::mars;

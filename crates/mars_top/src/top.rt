@@ -10,6 +10,7 @@ ghost use Rattle.stages.specs.World.{held, world};
 
 use crate::asked::{Asked, read_words};
 use mars_base::{Shelf, Sink, Source};
+use plan_command::run_plan;
 use refusals::{Refusal, say, status};
 use std::alloc::Global;
 use task_command::run_task;
@@ -20,6 +21,7 @@ use task_command::run_task;
 /// | words | does |
 /// |---|---|
 /// | `task FILE` | runs the task of a file over the lines of the input |
+/// | `plan PROJECT BUDGET` | prints the tables of a project, found within a budget of steps |
 pub fn mars<H: Shelf, I: Source, O: Sink, E: Sink>(
     alloc: Global,
     words: &[String],
@@ -64,5 +66,6 @@ fn perform<H: Shelf, I: Source, O: Sink>(
     match command {
         Asked::Nothing => Err(Refusal::Usage),
         Asked::Task { file } => run_task(alloc, file, shelf, input, out),
+        Asked::Plan { project, budget } => run_plan(alloc, project, budget, shelf, out),
     }
 }

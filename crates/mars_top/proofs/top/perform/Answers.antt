@@ -4,3 +4,6 @@ use Rattle.mars_top.proofs.top.perform.Goals as goal
 
 pub returns-in-Task : goal.returns-in-Task
 returns-in-Task g c = acts_as c.args.command (asked.Task c.in-Task.file) _ _ _ _ _ c.in-Task.is (c.run_task.ensures.answer, c.run_task.ensures.promises)
+
+pub returns-in-Plan : goal.returns-in-Plan
+returns-in-Plan g c = acts_as c.args.command (asked.Plan c.in-Plan.project c.in-Plan.budget) _ _ _ _ _ c.in-Plan.is (c.run_plan.ensures.answer _ _, c.run_plan.ensures.promises _ _)
