@@ -5,6 +5,8 @@ mod host;
 #[cfg(test)]
 mod order;
 #[cfg(test)]
+mod plans;
+#[cfg(test)]
 mod tests;
 
 use host::{FileShelf, StdSink, StdSource};
