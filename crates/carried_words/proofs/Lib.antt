@@ -1,0 +1,4 @@
+pub mod Edges
+pub mod Passed
+pub mod Sends
+pub mod Walk
