@@ -1,0 +1,5 @@
+//! Nets and graphs by worked rows. It is for tests.
+#![tactic(auto)]
+
+#[cfg(test)]
+mod tests;
