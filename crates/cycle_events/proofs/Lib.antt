@@ -1,0 +1,4 @@
+pub mod Acting
+pub mod Lists
+pub mod Passes
+pub mod Whole
