@@ -1,0 +1,5 @@
+pub mod Copied
+pub mod Feeders
+pub mod Feeding
+pub mod Lines
+pub mod Looking

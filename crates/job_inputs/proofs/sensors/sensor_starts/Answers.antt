@@ -1,0 +1,38 @@
+use Rattle.std.proofs.Common.{◌≡◌, ◌<◌, ◌+◌, ℕ, List, [], ◌∷◌, length, get_or, take, ◌∙◌, ap, arith, length-append}
+use Rattle.graph.specs.Cycle.{words_of_sensor, words_of_sensors}
+use Rattle.graph.specs.declared.net.Plug.{Plug}
+use Rattle.job_inputs.proofs.Lines.{words_more, words_within, each_more}
+use Rattle.job_inputs.proofs.sensors.sensor_starts.Goals as goal
+
+pub words_in_line-words-requires-clause-few : goal.words_in_line-words-requires-clause-few
+words_in_line-words-requires-clause-few c =
+    let net = c.args.net.now in let plug = c.index-as_slice-number.result in let i = c.loop-number.number in
+    let at : plug ≡ get_or net.sensors i plug = c.index-as_slice-number.is ∙ ap (λ (xs : List Plug). get_or xs i plug) c.as_slice.ensures in
+    let low : i < length net.sensors = omega (arith, c.loop-number-test.true, c.len-number-end.ensures) in
+    let room = words_within net c.args.graph.now.cycle net.sensors i plug low in
+    let same = ap (words_of_sensor net c.args.graph.now.cycle) at in
+    omega (arith, room, same, c.requires.is.graph.limits.words)
+
+pub overflow_add-words : goal.overflow_add-words
+overflow_add-words c =
+    let net = c.args.net.now in let plug = c.index-as_slice-number.result in let i = c.loop-number.number in
+    let at : plug ≡ get_or net.sensors i plug = c.index-as_slice-number.is ∙ ap (λ (xs : List Plug). get_or xs i plug) c.as_slice.ensures in
+    let low : i < length net.sensors = omega (arith, c.loop-number-test.true, c.len-number-end.ensures) in
+    let room = words_within net c.args.graph.now.cycle net.sensors i plug low in
+    let same = ap (words_of_sensor net c.args.graph.now.cycle) at in
+    omega (arith, room, same, c.requires.is.graph.limits.words, c.words_in_line-words.ensures, c.loop-number.invariant.words)
+
+pub loop-number-preserved : goal.loop-number-preserved
+loop-number-preserved c =
+    let net = c.args.net.now in let plug = c.index-as_slice-number.result in let i = c.loop-number.number in
+    let at : plug ≡ get_or net.sensors i plug = c.index-as_slice-number.is ∙ ap (λ (xs : List Plug). get_or xs i plug) c.as_slice.ensures in
+    let low : i < length net.sensors = omega (arith, c.loop-number-test.true, c.len-number-end.ensures) in
+    let same = ap (words_of_sensor net c.args.graph.now.cycle) at in
+    let more = words_more net c.args.graph.now.cycle net.sensors i plug low in
+    let items = c.in_ok-push.ensures.items in
+    record {
+      words = omega (arith, more, same, c.words_in_line-words.ensures, c.loop-number.invariant.words);
+      count = ap length items ∙ omega (arith, length-append c.loop-number.starts.items (c.loop-number.words ∷ []), c.loop-number.invariant.count);
+      each = λ k low. ap (λ xs. get_or xs k 0) items
+          ∙ each_more c.loop-number.starts.items c.loop-number.words i (λ k. words_of_sensors net c.args.graph.now.cycle (take k net.sensors)) c.loop-number.invariant.count c.loop-number.invariant.each c.loop-number.invariant.words k low;
+    }
