@@ -7,6 +7,8 @@ use Rattle.mars_top.specs.Ran.{RanOf}
 use Rattle.mars_top.specs.Replies.{Replies}
 use Rattle.mars_top.specs.declared.asked.Asked.{Asked}
 use Rattle.plan_command.proofs.PlanFacts.{lasts_planning, refuses_planning}
+use Rattle.plan_meaning.proofs.PlanMeaning.{plan_ran}
+use Rattle.plan_meaning.specs.PlanRan.{IsSearchStatus, PlanRan}
 use Rattle.refusals.proofs.CauseFacts.{caused_not_usage}
 use Rattle.refusals.specs.Causes.{Counts, Caused}
 use Rattle.refusals.specs.Said.{Said}
@@ -78,6 +80,8 @@ performed words asked before now status answer same is acts said = subst (λ (w 
 -- what a command came to
 pub ran_as : (command : Option Command) (before now : World) (status : ℕ) → Replies command before now status → RanOf command before now status
 ran_as None before now status replies = tt
-ran_as (Some (Plan project budget)) before now status replies = tt
+ran_as (Some (Plan project budget)) before now status replies = λ ends files told.
+    subst (λ (s : ℕ). PlanRan project budget files before.held.out now.held.out s) (sym replies.status_is)
+    (plan_ran project budget before.held now.held before.counts now.counts replies.answer replies.does (subst IsSearchStatus replies.status_is ends) files told)
 ran_as (Some (Task file)) before now status replies = λ ends files input told left.
     subst (λ (s : ℕ). TaskRan file files input before.held.out now.held.out s) (sym replies.status_is) (replies.promises.ran (subst IsRunStatus replies.status_is ends) files input told left)
