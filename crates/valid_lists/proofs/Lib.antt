@@ -1,0 +1,13 @@
+pub mod Along
+pub mod Apart
+pub mod Crossing
+pub mod Entries
+pub mod Frames
+pub mod Inputs
+pub mod Keys
+pub mod Known
+pub mod Ports
+pub mod Sending
+pub mod Stacking
+pub mod Units
+pub mod Valid
