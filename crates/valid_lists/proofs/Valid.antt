@@ -1,12 +1,12 @@
 -- The tables of a list that choices lead to, in which every job is placed, keep the eight rules.
-use Rattle.std.proofs.Common.{ℕ, List, length}
+use Rattle.std.proofs.Common.{ℕ, List, [], length}
 use Rattle.graph.specs.declared.net.Net.{Net}
 use Rattle.graph.specs.JobGraph.{JobGraph}
 use Rattle.graph.specs.NetGraph.{IsNetGraph, IsNetGraphFor}
 use Rattle.tables.specs.declared.rule.TableRule.{TableRule}
 use Rattle.tables.specs.declared.rule.TableRule.TheVariants as rule
 use Rattle.tables.specs.Valid.{Keeps, AreValid}
-use Rattle.walks.specs.First.{IsFirst}
+use Rattle.walks.specs.First.{Whole, IsFirst}
 use Rattle.decisions.specs.Choices.{rules_of}
 use Rattle.decisions.specs.Decision.{Decision}
 use Rattle.decisions.specs.ProblemOf.{problem_of}
@@ -30,6 +30,10 @@ keeps net ns g l h f rule.Frames = frames_kept net ns g l h f
 pub full_valid : (net : Net) (g : JobGraph) (l : List Decision) → IsNetGraph net g → IsFull (problem_of net g) l → AreValid net g (tables_of (problem_of net g) l)
 full_valid net g l h f = keeps net h.lengths g l h.is f
 
+-- a whole list
+pub whole_valid : (net : Net) (g : JobGraph) (ranks : List ℕ) (l : List Decision) → IsNetGraph net g → Whole (rules_of (problem_of net g)) (length (problem_of net g).works) [] ranks l → AreValid net g (tables_of (problem_of net g) l)
+whole_valid net g ranks l h w = full_valid net g l h (full_of (problem_of net g) ranks l w)
+
 -- the first whole list, which a search finds
 pub first_valid : (net : Net) (g : JobGraph) (l : List Decision) → IsNetGraph net g → IsFirst (rules_of (problem_of net g)) (length (problem_of net g).works) l → AreValid net g (tables_of (problem_of net g) l)
-first_valid net g l h f = full_valid net g l h (full_of (problem_of net g) f.ranks l f.is)
+first_valid net g l h f = whole_valid net g f.ranks l h f.is
