@@ -1,0 +1,2 @@
+pub mod OnBus
+pub mod Tells

@@ -1,0 +1,6 @@
+//! A replica of a unit: the parts of its tick, each exactly the part of the model.
+#![tactic(auto)]
+
+pub mod put;
+
+pub use put::put_word;
