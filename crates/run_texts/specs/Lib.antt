@@ -1,0 +1,4 @@
+pub mod Along
+pub mod Lines
+pub mod RunText
+pub mod Setting
