@@ -1,0 +1,2 @@
+//! What is seen of the events of a cluster: definitions alone.
+#![tactic(auto)]

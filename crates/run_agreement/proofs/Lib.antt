@@ -1,0 +1,4 @@
+pub mod Cycle
+pub mod Losses
+pub mod Texts
+pub mod Whole
