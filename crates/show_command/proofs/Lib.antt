@@ -1,0 +1,2 @@
+pub mod ShowFacts
+pub mod ShowMeaning

@@ -1,0 +1,6 @@
+//! The command `show IMAGE`.
+#![tactic(auto)]
+
+pub mod command;
+
+pub use command::{run_show, show};
