@@ -1,2 +1,4 @@
+pub mod Arrivals
 pub mod Lists
 pub mod OwnSlots
+pub mod Shown

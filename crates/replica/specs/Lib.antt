@@ -1,2 +1,3 @@
 pub mod OnBus
+pub mod Takes
 pub mod Tells

@@ -2,5 +2,7 @@
 #![tactic(auto)]
 
 pub mod put;
+pub mod take;
 
 pub use put::put_word;
+pub use take::take_frames;
