@@ -1,16 +1,14 @@
 //! The image of a planned project.
-ghost use Rattle.std.specs.Prelude.{◌≡◌, All, IfOk, IsTrue, map};
+ghost use Rattle.std.specs.Prelude.{◌≡◌, All, IfOk, map};
 ghost use Rattle.graph.specs.JobGraph.{IsJobGraph};
-ghost use Rattle.graph.specs.NetGraph.{IsNetGraph};
 ghost use Rattle.image_plant.specs.Image.{IsImage};
 ghost use Rattle.planned_plant.specs.Plant.{plant_of, IsWholePlan};
 ghost use Rattle.project_plant.specs.Planned.{code_in};
-ghost use Rattle.project_tables.specs.Planned.{plain_planned, IsPlanned};
+ghost use Rattle.project_tables.specs.Planned.{plain_planned};
 ghost use Rattle.project_tasks.specs.Entries.{IsRead};
-ghost use Rattle.tables.specs.Valid.{AreValid};
 ghost use Rattle.task_source.specs.Built.{plain_built};
 
-use graph::{Graph, Net};
+use graph::Graph;
 use image::Image;
 use image_sides::states_of;
 use mars_base::Memory;
@@ -19,16 +17,14 @@ use project_graph::list_bounds;
 use project_tables::ProjectPlan;
 use sqlite_items::Items;
 use std::alloc::Global;
-use tables::{Tables, valid};
 use task_source::BuiltTask;
 use word_code::Verified;
 
-/// The image of a planned project whose parts are whole where its tables are valid: each task's program is its
-/// code, with its bound and its state words. The tables are looked at once more, so that no image ever has tables
-/// that break a rule. Refused without memory, and in the same way where they broke one.
+/// The image of a planned project whose parts are whole: each task's program is its code, with its bound and its
+/// state words. Refused only without memory.
 pub fn image_of(alloc: Global, plan: ProjectPlan) -> Result<Image, Memory>
-    requires planned { IsPlanned plan }
-    requires whole { AreValid plan.net plan.graph plan.tables → IsWholePlan (plain_planned plan) }
+    requires read { All IsRead plan.tasks }
+    requires whole { IsWholePlan (plain_planned plan) }
     ensures plant { IfOk result (λ image. image ≡ plant_of (plain_planned plan)) }
     ensures image { IfOk result IsImage }
 {
@@ -38,9 +34,6 @@ pub fn image_of(alloc: Global, plan: ProjectPlan) -> Result<Image, Memory>
         tasks,
         tables,
     } = plan;
-    if !keeps_rules(&tables, &net, &graph) {
-        return Err(Memory);
-    }
     let maxts = Items::from_vec(list_bounds(alloc, tasks.as_slice())?);
     let programs = programs_of(alloc, tasks)?;
     let states = states_of(alloc, programs.as_slice())?;
@@ -52,17 +45,6 @@ pub fn image_of(alloc: Global, plan: ProjectPlan) -> Result<Image, Memory>
         maxts,
         states,
     }))
-}
-
-// Whether tables keep all rules.
-fn keeps_rules(tables: &Tables, net: &Net, graph: &Graph) -> bool
-    requires { IsNetGraph net.now graph.now }
-    ensures { IsTrue result → AreValid net.now graph.now tables.now }
-{
-    match valid(tables, net, graph) {
-        Ok(()) => true,
-        Err(_broken) => false,
-    }
 }
 
 // A graph, whose own facts are told.
