@@ -1,0 +1,4 @@
+pub mod Behind
+pub mod Digits
+pub mod FirstWord
+pub mod Lines

@@ -1,0 +1,5 @@
+pub mod Entry
+pub mod FirstLine
+pub mod Reading
+pub mod Reads
+pub mod Words
