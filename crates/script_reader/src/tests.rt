@@ -7,6 +7,7 @@ use std::test::Fail;
 
 // Reads a script for two units and a cycle of 24 ticks: how many silences and paces it has, or its bad line.
 fn counts(rt: &impl Abort, alloc: Global, text: &[u8], silences: usize, paces: usize, bad: u32) {
+    assert!(rt; text.len() <= 1_048_576);
     match read_script(alloc, text, 2, 24) {
         Ok(script) => {
             assert_eq!(rt; bad, 0);
