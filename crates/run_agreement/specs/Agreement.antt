@@ -6,6 +6,7 @@ use Rattle.script.specs.declared.script.Pace.{Pace}
 use Rattle.script.specs.declared.script.Silence.{Silence}
 use Rattle.graph.specs.JobGraph.{JobGraph}
 use Rattle.graph.specs.declared.net.Net.{Net}
+use Rattle.tables.specs.Named.{entry_at}
 use Rattle.tables.specs.declared.table.Tables.{Tables}
 use Rattle.net_run.specs.Alike.{IsLine}
 use Rattle.net_run.specs.NetRun.{Execution}
@@ -23,7 +24,7 @@ AreLines net cycle (Bad n) = Unit {0}
 AreLines net cycle (Line line rest) = IsLine net cycle line × AreLines net cycle rest
 
 abbrev pub setting : Net → JobGraph → Tables → (maxts : List ℕ) → List Silence → Setting
-setting net g t maxts silences = record { net = net; graph = g; tables = t; maxts = maxts; silences = silences }
+setting net g t maxts silences = record { net = net; graph = g; ends = λ job. (entry_at t job).end; maxts = maxts; silences = silences }
 
 -- Over any lines and under any script, whatever is lost: the text of the cluster's cycles is that along the net, and both end alike.
 abbrev pub RunAgreement : Type 0

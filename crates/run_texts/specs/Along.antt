@@ -3,7 +3,7 @@ use Rattle.std.specs.Prelude.{ℕ, ℤ, List, get_or, slice_get, slice_index, Op
 use Rattle.script.specs.declared.script.Silence.{Silence}
 use Rattle.graph.specs.JobGraph.{JobGraph}
 use Rattle.graph.specs.declared.net.Net.{Net}
-use Rattle.tables.specs.Named.{job_at}
+use Rattle.tables.specs.Named.{job_at, entry_at}
 use Rattle.net_run.specs.NetRun.{JobResult, Done, Broken, Skipped, Execution, one_cycle, state_before, inputs_of, first_states}
 use Rattle.plant.specs.declared.system.Plant.{Plant}
 use Rattle.plant_run.specs.PlantRun.{plant_execution}
@@ -53,4 +53,4 @@ module _ {P : Type 0} (execution : P → (limit : ℕ) → (state ins : List ℤ
   along_plant = along_net plant.net plant.graph plant.states (plant_execution execution plant) plant_cost
 
 abbrev pub setting_of : {P : Type 0} → Plant P → List Silence → Setting
-setting_of plant silences = record { net = plant.net; graph = plant.graph; tables = plant.tables; maxts = plant.maxts; silences = silences }
+setting_of plant silences = record { net = plant.net; graph = plant.graph; ends = λ job. (entry_at plant.tables job).end; maxts = plant.maxts; silences = silences }

@@ -9,15 +9,14 @@ use Rattle.graph.specs.Net.{instances}
 use Rattle.graph.specs.declared.net.Net.{Net}
 use Rattle.graph.specs.declared.net.NetTask.{NetTask}
 use Rattle.graph.specs.declared.net.Plug.{Plug}
-use Rattle.tables.specs.Named.{entry_at}
-use Rattle.tables.specs.declared.table.Tables.{Tables}
 use Rattle.cluster_model.specs.Silences.{falls}
 
--- a net, the graph of its jobs and its tables, the greatest number of cycles of each task, and the silences of a script
+-- a net and the graph of its jobs, the tick at which each job has ended, by its number, the greatest number of cycles of each
+-- task, and the silences of a script
 pub record Setting : Type 0 where
   pub net : Net
   pub graph : JobGraph
-  pub tables : Tables
+  pub ends : (job : ℕ) → ℕ
   pub maxts : List ℕ
   pub silences : List Silence
 
@@ -61,9 +60,9 @@ module _ (s : Setting) where
   abbrev pub job_for : (actuator instance : ℕ) → ℕ
   job_for actuator instance = job_number s.net s.graph.cycle (actuator_task actuator) instance
 
-  -- an actuator gets its words at the tick at which the table ends the job
+  -- an actuator gets its words at the tick at which the job has ended
   abbrev pub tick_of : (actuator instance : ℕ) → ℕ
-  tick_of actuator instance = (entry_at s.tables (job_for actuator instance)).end
+  tick_of actuator instance = s.ends (job_for actuator instance)
 
   -- the outputs of an actuator, by instance
   abbrev pub outputs_of : (actuator : ℕ) → List Output
