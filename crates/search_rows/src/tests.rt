@@ -8,7 +8,9 @@ use std::alloc::Global;
 use std::process::Abort;
 use std::test::Fail;
 use tables::{JobEntry, Message, Tables};
-use worked_nets::{graph_of, one_is_free, plant, two_on_one_unit, two_tasks};
+use worked_nets::{
+    graph_of, net_of, one_is_free, one_task, plant, shape_of, two_on_one_unit, two_tasks,
+};
 
 /// The search of a net with the length in ticks of each task's jobs, within a budget.
 fn searched(
@@ -87,12 +89,13 @@ fn compare_tables(
     rt: &impl Abort,
     alloc: Global,
     net: &Net,
+    lengths: &[u32],
     budget: u32,
     jobs: &[JobEntry],
     messages: &[Message],
 ) -> Result<(), Memory> {
     let mut steps = Steps::new();
-    let Ok(tables) = searched(alloc, net, &[1, 1], budget, &mut steps) else {
+    let Ok(tables) = searched(alloc, net, lengths, budget, &mut steps) else {
         return Err(Memory);
     };
     assert!(rt; tables.jobs.as_slice() == jobs);
@@ -100,26 +103,70 @@ fn compare_tables(
     Ok(())
 }
 
+/// A message of the first instance, from unit 0 and from the first word of its frame on.
+fn message(edge: u16, round: u32) -> Message {
+    Message {
+        edge,
+        instance: 0,
+        unit: 0,
+        round,
+        offset: 0,
+    }
+}
+
 #[test]
 fn a_message_goes_in_the_first_frame_after_its_producer(rt: HostRuntime) -> Result<(), Fail> {
     let alloc = rt.alloc();
     let net = two_tasks(alloc)?;
-    let message = Message {
-        edge: 0,
-        instance: 0,
-        unit: 0,
-        round: 1,
-        offset: 0,
-    };
-    compare_tables(
-        &rt,
-        alloc,
-        &net,
-        3,
-        &[entry(0, 0, 0, 1), entry(1, 1, 18, 19)],
-        &[message],
-    )?;
+    let jobs = [entry(0, 0, 0, 1), entry(1, 1, 18, 19)];
+    compare_tables(&rt, alloc, &net, &[1, 1], 3, &jobs, &[message(0, 1)])?;
     compare(&rt, alloc, &net, &[1, 1], 2, Some(SearchFault::Spent), 2);
+    Ok(())
+}
+
+/// A task of unit 0 that feeds two tasks of unit 1. A frame has the words of one message.
+fn one_for_two(alloc: Global) -> Result<Net, Memory> {
+    net_of(
+        alloc,
+        shape_of(2, 7, 12),
+        &[("a", 0, 1), ("b", 0, 2), ("c", 0, 2)],
+        &[("t", 36, 36)],
+        &[(0, 1), (0, 2)],
+        &[("s", 0)],
+        &[],
+    )
+}
+
+#[test]
+fn a_full_frame_is_passed_over(rt: HostRuntime) -> Result<(), Fail> {
+    let alloc = rt.alloc();
+    let net = one_for_two(alloc)?;
+    let jobs = [entry(0, 0, 0, 1), entry(1, 1, 18, 19), entry(2, 1, 30, 31)];
+    let messages = [message(0, 1), message(1, 2)];
+    compare_tables(&rt, alloc, &net, &[1, 1, 1], 4, &jobs, &messages)?;
+    Ok(())
+}
+
+/// Whether each job starts at its release, six ticks after the one before.
+fn start_at_releases(tables: &Tables) -> bool {
+    tables
+        .jobs
+        .as_slice()
+        .iter()
+        .all(|entry| entry.start == 6 * u32::from(entry.job))
+}
+
+#[test]
+fn many_instances_start_at_their_releases(rt: HostRuntime) -> Result<(), Fail> {
+    let alloc = rt.alloc();
+    let net = one_task(alloc, 3072, 6, 6)?;
+    let mut steps = Steps::new();
+    let Ok(tables) = searched(alloc, &net, &[1], 513, &mut steps) else {
+        return Err(Memory)?;
+    };
+    assert_eq!(rt; tables.jobs.len(), 512);
+    assert!(rt; start_at_releases(&tables));
+    compare(&rt, alloc, &net, &[1], 512, Some(SearchFault::Spent), 512);
     Ok(())
 }
 
