@@ -1,3 +1,4 @@
 pub mod OnBus
+pub mod Opens
 pub mod Takes
 pub mod Tells

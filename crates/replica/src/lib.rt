@@ -2,7 +2,9 @@
 #![tactic(auto)]
 
 pub mod put;
+pub mod start;
 pub mod take;
 
 pub use put::put_word;
+pub use start::open_job;
 pub use take::take_frames;
