@@ -11,7 +11,8 @@ use Rattle.plant.specs.Programs.{ProgramsFit}
 use Rattle.plant_run.specs.PlantRun.{end_at, plant_execution}
 use Rattle.net_run.specs.Alike.{HasWords, FitsTask}
 use Rattle.cluster_agreement.specs.Agreement.{IsSet}
-use Rattle.cluster_losses.specs.Plants.{HaveWords, PlantsAreSet}
+use Rattle.cluster_agreement.proofs.Along.{agreement_holds}
+use Rattle.cluster_losses.specs.Plants.{HaveWords, PlantsAreSet, PlantsAgree}
 
 module _ {P : Type 0} (takes gives has : P → ℕ) (execution : P → ℕ → List ℤ → List ℤ → Ran) (has_words : P → Type 0)
     (sized : (program : P) (limit : ℕ) (state ins left outs : List ℤ) → length state ≡ has program → length ins ≡ takes program
@@ -40,3 +41,7 @@ module _ {P : Type 0} (takes gives has : P → ℕ) (execution : P → ℕ → L
         left = λ state ins left outs s i ended. leaves plant fit have task state ins left outs s i (slice_get plant.programs task) refl ended;
       };
     }
+
+    pub plant_agrees : PlantsAgree takes gives has execution has_words
+    plant_agrees plant cost silences order fit have =
+        agreement_holds plant.net plant.graph plant.tables plant.states (plant_execution execution plant) cost silences (plant_set plant order fit have)

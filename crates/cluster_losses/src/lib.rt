@@ -2,7 +2,7 @@
 #![tactic(auto)]
 
 ghost use Rattle.cluster_losses.specs.Losses.{FallsWhereNotRunning, LostWhereBothFall};
-ghost use Rattle.cluster_losses.specs.Plants.{PlantsAreSet};
+ghost use Rattle.cluster_losses.specs.Plants.{PlantsAgree, PlantsAreSet};
 
 use processor::Cpu;
 
@@ -14,7 +14,9 @@ pub fn silences_are_the_script()
 {}
 
 /// The law that each plant in order, whose programs fit it and have words alone, keeps the premise of the cluster's
-/// agreement with the graph: its programs under their greatest numbers of cycles fit its tasks.
+/// agreement with the graph: its programs under their greatest numbers of cycles fit its tasks. So over every list of
+/// enabled events, as long as no unit is lost, its cluster agrees with the plant's run.
 pub fn plants_are_set<C: Cpu>()
-    ensures { PlantsAreSet C.ins_of C.outs_of C.states_of C.execution C.has_words }
+    ensures set { PlantsAreSet C.ins_of C.outs_of C.states_of C.execution C.has_words }
+    ensures agree { PlantsAgree C.ins_of C.outs_of C.states_of C.execution C.has_words }
 {}
