@@ -1,16 +1,14 @@
 -- The programs of a plant fit its tasks.
-use Rattle.std.proofs.Common.{◌≡◌, ℕ, ◌<◌, List, length, Option, Some, None, ℤ, refl, sym, ap, ◌∙◌, slice_get}
+use Rattle.std.proofs.Common.{◌≡◌, ℕ, List, length, Option, Some, None, ℤ, refl, sym, ◌∙◌, slice_get}
 use Rattle.std.specs.Prelude.{sum, slice_index}
 use Rattle.processor.specs.Ends.{Halted, end_under}
 use Rattle.processor.specs.Results.{Ran, AreWords}
 use Rattle.graph.specs.Net.{ins_of, outs_of}
 use Rattle.plant.specs.declared.system.Plant.{Plant}
-use Rattle.plant.specs.InOrder.{IsInOrder}
 use Rattle.plant.specs.Lengths.{lengths_of}
 use Rattle.plant.specs.Programs.{ProgramsFit}
 use Rattle.plant_run.specs.PlantRun.{end_at, plant_execution}
-use Rattle.net_run.specs.Alike.{HasWords, FitsTask}
-use Rattle.cluster_agreement.specs.Agreement.{IsSet}
+use Rattle.net_run.specs.Alike.{HasWords}
 use Rattle.cluster_agreement.proofs.Along.{agreement_holds}
 use Rattle.cluster_losses.specs.Plants.{HaveWords, PlantsAreSet, PlantsAgree}
 

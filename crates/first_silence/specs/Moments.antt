@@ -1,5 +1,5 @@
 -- The first silence of a replica, as the moment from which on it is silent.
-use Rattle.std.specs.Prelude.{◌≡◌, ℕ, Bool, true, false, ◌&&◌, ◌||◌, nat_eq, nat_le, nat_lt, if◌then◌else◌, List, Option, Some, None}
+use Rattle.std.specs.Prelude.{◌≡◌, ℕ, Bool, false, ◌&&◌, ◌||◌, nat_eq, nat_le, nat_lt, if◌then◌else◌, List, Option, Some, None}
 use Rattle.mars_base.specs.declared.shape.Side.{Side}
 use Rattle.script.specs.declared.script.Silence.{Silence}
 use Rattle.cluster_model.specs.Silences.{same_side, falls}
