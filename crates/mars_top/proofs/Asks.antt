@@ -1,7 +1,7 @@
 -- A command as it was given, and what holds of every command.
 use Rattle.std.proofs.Common.{◌≡◌, ◌⊎◌, inl, inr, ◌∙◌, ap, refl, sym, subst, ℕ, Option, None, Some, Result, Ok, Err, arith}
 use Rattle.mars_top.specs.Asked.{plain_asked}
-use Rattle.mars_top.specs.Command.{Command, Plan, Task, stage_of}
+use Rattle.mars_top.specs.Command.{Command, Plan, Show, Task, stage_of}
 use Rattle.mars_top.specs.Helpers.{Acts}
 use Rattle.mars_top.specs.Ran.{RanOf}
 use Rattle.mars_top.specs.Replies.{Replies}
@@ -14,6 +14,9 @@ use Rattle.refusals.specs.Causes.{Counts, Caused}
 use Rattle.refusals.specs.Said.{Said}
 use Rattle.refusals.specs.Status.{status_of, status_of_result}
 use Rattle.refusals.specs.declared.refusal.Refusal.{Refusal}
+use Rattle.show_command.proofs.ShowFacts.{lasts_showing, refuses_show}
+use Rattle.show_command.proofs.ShowMeaning.{show_ran}
+use Rattle.show_command.specs.ShowRan.{IsShowStatus, ShowRan}
 use Rattle.stages.specs.Stage.{Does}
 use Rattle.stages.specs.World.{Held, World}
 use Rattle.stages.proofs.ExactFacts.{exact}
@@ -30,6 +33,7 @@ acts_as given known b n c d r is acts = subst (λ (k : Asked). Acts (plain_asked
 lasts : (command : Command) → fact.Lasts (stage_of command)
 lasts (Task file) = lasts_tasking file
 lasts (Plan project budget) = lasts_planning project budget
+lasts (Show file) = lasts_showing file
 
 -- no command answers that the words are none
 abbrev NoUsage : Refusal → Type 0
@@ -38,6 +42,7 @@ NoUsage e = status_of e ≡ 2 → ⊥
 never_meant : (command : Command) → fact.Refuses NoUsage (stage_of command)
 never_meant (Task file) = refuses_tasking NoUsage file (λ e. omega (arith, e)) (λ e. omega (arith, e)) (λ f e. omega (arith, e)) (λ n e. omega (arith, e)) (λ e. omega (arith, e))
 never_meant (Plan project budget) = refuses_planning NoUsage project budget (λ name e. omega (arith, e)) (λ name e. omega (arith, e)) (λ f e. omega (arith, e)) (λ e. omega (arith, e)) (λ e. omega (arith, e))
+never_meant (Show file) = refuses_show NoUsage file (λ e. omega (arith, e)) (λ e. omega (arith, e)) (λ b e. omega (arith, e))
 
 never_two : (command : Command) (b n : Held) (c d : Counts) (r : Result (Unit {0}) Refusal) → Does (stage_of command) b n c d r → status_of_result r ≡ 2 → ⊥
 never_two command b n c d (Ok u) does is = omega (arith, is)
@@ -83,5 +88,8 @@ ran_as None before now status replies = tt
 ran_as (Some (Plan project budget)) before now status replies = λ ends files told.
     subst (λ (s : ℕ). PlanRan project budget files before.held.out now.held.out s) (sym replies.status_is)
     (plan_ran project budget before.held now.held before.counts now.counts replies.answer replies.does (subst IsSearchStatus replies.status_is ends) files told)
+ran_as (Some (Show file)) before now status replies = λ ends files told.
+    subst (λ (s : ℕ). ShowRan file files before.held.out now.held.out s) (sym replies.status_is)
+    (show_ran file before.held now.held before.counts now.counts replies.answer replies.does (subst IsShowStatus replies.status_is ends) files told)
 ran_as (Some (Task file)) before now status replies = λ ends files input told left.
     subst (λ (s : ℕ). TaskRan file files input before.held.out now.held.out s) (sym replies.status_is) (replies.promises.ran (subst IsRunStatus replies.status_is ends) files input told left)

@@ -1,12 +1,13 @@
 -- All that a call of the program does.
 use Rattle.std.specs.Prelude.{◌≡◌, ℕ, Option, None, Some, Result, Err}
-use Rattle.mars_top.specs.Command.{Command, Plan, Task, stage_of}
+use Rattle.mars_top.specs.Command.{Command, Plan, Show, Task, stage_of}
 use Rattle.plan_command.specs.Plan.{PlanPromises}
 use Rattle.refusals.specs.Causes.{Counts}
 use Rattle.refusals.specs.Said.{Said}
 use Rattle.refusals.specs.Status.{status_of_result}
 use Rattle.refusals.specs.declared.refusal.Refusal.{Refusal}
 use Rattle.refusals.specs.declared.refusal.Refusal.TheVariants as refusal
+use Rattle.show_command.specs.Show.{ShowPromises}
 use Rattle.stages.specs.Exact.{Exact}
 use Rattle.stages.specs.Stage.{Does}
 use Rattle.stages.specs.World.{Held, World}
@@ -16,6 +17,7 @@ use Rattle.task_command.specs.Task.{TaskPromises}
 abbrev pub Promises : Command → Held → Held → Counts → Counts → Result (Unit {0}) Refusal → Type 0
 Promises (Task file) before now counts counts' answer = TaskPromises file before now counts counts' answer
 Promises (Plan project budget) before now counts counts' answer = PlanPromises project budget before now counts counts' answer
+Promises (Show file) before now counts counts' answer = ShowPromises file before now counts counts' answer
 
 -- The command did its stages: all of what they mean, or it was cut off in one of them, by want of memory or by a fault
 -- that was counted. Where files and input are told, what they mean is exactly what was answered and left. The status is

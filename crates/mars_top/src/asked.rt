@@ -16,6 +16,8 @@ pub enum Asked<'a> {
     Task { file: &'a str },
     /// `plan PROJECT BUDGET`.
     Plan { project: &'a str, budget: u32 },
+    /// `show IMAGE`.
+    Show { file: &'a str },
 }
 
 /// The command of the words; Nothing exactly where they are none.
@@ -26,6 +28,10 @@ pub fn read_words(words: &[String]) -> Asked<'_>
         [word, file] => {
             if word.as_str() == "task" {
                 Asked::Task {
+                    file: file.as_str(),
+                }
+            } else if word.as_str() == "show" {
+                Asked::Show {
                     file: file.as_str(),
                 }
             } else {

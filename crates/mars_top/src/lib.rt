@@ -6,5 +6,6 @@ pub mod top;
 
 pub use plan_command::run_plan;
 pub use refusals::{Fault, ImageBad, Place, ProjectKind, Refusal, Section, say, status};
+pub use show_command::run_show;
 pub use task_command::run_task;
 pub use top::mars;

@@ -12,6 +12,7 @@ use crate::asked::{Asked, read_words};
 use mars_base::{Shelf, Sink, Source};
 use plan_command::run_plan;
 use refusals::{Refusal, say, status};
+use show_command::run_show;
 use std::alloc::Global;
 use task_command::run_task;
 
@@ -22,6 +23,7 @@ use task_command::run_task;
 /// |---|---|
 /// | `task FILE` | runs the task of a file over the lines of the input |
 /// | `plan PROJECT BUDGET` | prints the tables of a project, found within a budget of steps |
+/// | `show IMAGE` | prints the tables of an image |
 pub fn mars<H: Shelf, I: Source, O: Sink, E: Sink>(
     alloc: Global,
     words: &[String],
@@ -67,5 +69,6 @@ fn perform<H: Shelf, I: Source, O: Sink>(
         Asked::Nothing => Err(Refusal::Usage),
         Asked::Task { file } => run_task(alloc, file, shelf, input, out),
         Asked::Plan { project, budget } => run_plan(alloc, project, budget, shelf, out),
+        Asked::Show { file } => run_show(alloc, file, shelf, out),
     }
 }

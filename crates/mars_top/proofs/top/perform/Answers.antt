@@ -7,3 +7,6 @@ returns-in-Task g c = acts_as c.args.command (asked.Task c.in-Task.file) _ _ _ _
 
 pub returns-in-Plan : goal.returns-in-Plan
 returns-in-Plan g c = acts_as c.args.command (asked.Plan c.in-Plan.project c.in-Plan.budget) _ _ _ _ _ c.in-Plan.is (c.run_plan.ensures.answer _ _, c.run_plan.ensures.promises _ _)
+
+pub returns-in-Show : goal.returns-in-Show
+returns-in-Show g c = acts_as c.args.command (asked.Show c.in-Show.file) _ _ _ _ _ c.in-Show.is (c.run_show.ensures.answer _ _, c.run_show.ensures.promises _ _)
