@@ -1,4 +1,6 @@
 pub mod Arrivals
+pub mod Closing
+pub mod Falls
 pub mod Lists
 pub mod Opening
 pub mod OwnSlots

@@ -1,10 +1,14 @@
 //! A replica of a unit: the parts of its tick, each exactly the part of the model.
 #![tactic(auto)]
 
+pub mod close;
+pub mod fall;
 pub mod put;
 pub mod start;
 pub mod take;
 
+pub use close::close_job;
+pub use fall::fall_silent;
 pub use put::put_word;
 pub use start::open_job;
 pub use take::take_frames;

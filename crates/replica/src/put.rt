@@ -75,7 +75,7 @@ pub fn put_word(
 }
 
 // The place of a tick's word on the bus where the slot is the unit's side's.
-fn own_place(round: &Round, unit: u8, side: Side, tick: u32) -> Option<SlotPlace>
+pub(crate) fn own_place(round: &Round, unit: u8, side: Side, tick: u32) -> Option<SlotPlace>
     requires unit { unit < round.now.units }
     requires tick { tick < cycle_ticks round.now }
     ensures { OwnPlace round.now unit side tick result }
