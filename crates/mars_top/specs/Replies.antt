@@ -1,6 +1,7 @@
 -- All that a call of the program does.
 use Rattle.std.specs.Prelude.{◌≡◌, ℕ, Option, None, Some, Result, Err}
-use Rattle.mars_top.specs.Command.{Command, Plan, Show, Task, stage_of}
+use Rattle.build_command.specs.Build.{BuildPromises}
+use Rattle.mars_top.specs.Command.{Command, Build, Plan, Show, Task, stage_of}
 use Rattle.plan_command.specs.Plan.{PlanPromises}
 use Rattle.refusals.specs.Causes.{Counts}
 use Rattle.refusals.specs.Said.{Said}
@@ -17,6 +18,7 @@ use Rattle.task_command.specs.Task.{TaskPromises}
 abbrev pub Promises : Command → Held → Held → Counts → Counts → Result (Unit {0}) Refusal → Type 0
 Promises (Task file) before now counts counts' answer = TaskPromises file before now counts counts' answer
 Promises (Plan project budget) before now counts counts' answer = PlanPromises project budget before now counts counts' answer
+Promises (Build project budget image) before now counts counts' answer = BuildPromises project budget image before now counts counts' answer
 Promises (Show file) before now counts counts' answer = ShowPromises file before now counts counts' answer
 
 -- The command did its stages: all of what they mean, or it was cut off in one of them, by want of memory or by a fault

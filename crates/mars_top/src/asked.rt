@@ -3,7 +3,7 @@ ghost use Rattle.std.specs.Prelude.{◌≡◌, map, string_bytes};
 ghost use Rattle.std.specs.Option.{option_map};
 ghost use Rattle.mars_top.specs.Asked.{plain_asked};
 ghost use Rattle.budgets.specs.Budget.{budget_of};
-ghost use Rattle.mars_top.specs.Command.{Plan, command_of};
+ghost use Rattle.mars_top.specs.Command.{Build, Plan, command_of};
 
 use budgets::budget_of;
 
@@ -13,11 +13,24 @@ pub enum Asked<'a> {
     /// Words that are no command.
     Nothing,
     /// `task FILE`.
-    Task { file: &'a str },
+    Task {
+        file: &'a str,
+    },
     /// `plan PROJECT BUDGET`.
-    Plan { project: &'a str, budget: u32 },
+    Plan {
+        project: &'a str,
+        budget: u32,
+    },
+    /// `build PROJECT BUDGET IMAGE`.
+    Build {
+        project: &'a str,
+        budget: u32,
+        image: &'a str,
+    },
     /// `show IMAGE`.
-    Show { file: &'a str },
+    Show {
+        file: &'a str,
+    },
 }
 
 /// The command of the words; Nothing exactly where they are none.
@@ -45,6 +58,13 @@ pub fn read_words(words: &[String]) -> Asked<'_>
                 Asked::Nothing
             }
         }
+        [word, project, budget, image] => {
+            if word.as_str() == "build" {
+                read_build(project.as_str(), budget.as_str(), image.as_str())
+            } else {
+                Asked::Nothing
+            }
+        }
         _ => Asked::Nothing,
     }
 }
@@ -55,6 +75,20 @@ fn read_plan<'a>(project: &'a str, budget: &str) -> Asked<'a>
 {
     match budget_of(budget.as_bytes()) {
         Some(budget) => Asked::Plan { project, budget },
+        None => Asked::Nothing,
+    }
+}
+
+// `build` with these names, where the second is a budget.
+fn read_build<'a>(project: &'a str, budget: &str, image: &'a str) -> Asked<'a>
+    ensures { plain_asked result ≡ option_map (λ n. Build project.now n image.now) (budget_of budget.now) }
+{
+    match budget_of(budget.as_bytes()) {
+        Some(budget) => Asked::Build {
+            project,
+            budget,
+            image,
+        },
         None => Asked::Nothing,
     }
 }

@@ -9,6 +9,7 @@ ghost use Rattle.refusals.specs.Causes.{counts};
 ghost use Rattle.stages.specs.World.{held, world};
 
 use crate::asked::{Asked, read_words};
+use build_command::run_build;
 use mars_base::{Shelf, Sink, Source};
 use plan_command::run_plan;
 use refusals::{Refusal, say, status};
@@ -23,6 +24,7 @@ use task_command::run_task;
 /// |---|---|
 /// | `task FILE` | runs the task of a file over the lines of the input |
 /// | `plan PROJECT BUDGET` | prints the tables of a project, found within a budget of steps |
+/// | `build PROJECT BUDGET IMAGE` | writes the image of a project and prints its report |
 /// | `show IMAGE` | prints the tables of an image |
 pub fn mars<H: Shelf, I: Source, O: Sink, E: Sink>(
     alloc: Global,
@@ -69,6 +71,11 @@ fn perform<H: Shelf, I: Source, O: Sink>(
         Asked::Nothing => Err(Refusal::Usage),
         Asked::Task { file } => run_task(alloc, file, shelf, input, out),
         Asked::Plan { project, budget } => run_plan(alloc, project, budget, shelf, out),
+        Asked::Build {
+            project,
+            budget,
+            image,
+        } => run_build(alloc, project, budget, image, shelf, out),
         Asked::Show { file } => run_show(alloc, file, shelf, out),
     }
 }

@@ -10,3 +10,6 @@ returns-in-Plan g c = acts_as c.args.command (asked.Plan c.in-Plan.project c.in-
 
 pub returns-in-Show : goal.returns-in-Show
 returns-in-Show g c = acts_as c.args.command (asked.Show c.in-Show.file) _ _ _ _ _ c.in-Show.is (c.run_show.ensures.answer _ _, c.run_show.ensures.promises _ _)
+
+pub returns-in-Build : goal.returns-in-Build
+returns-in-Build g c = acts_as c.args.command (asked.Build c.in-Build.project c.in-Build.budget c.in-Build.image) _ _ _ _ _ c.in-Build.is (c.run_build.ensures.answer _ _, c.run_build.ensures.promises _ _)
