@@ -1,0 +1,6 @@
+//! The lines of run text, written through a buffer.
+#![tactic(auto)]
+
+pub mod line;
+
+pub use line::{write_broken, write_lost, write_out, write_task};
