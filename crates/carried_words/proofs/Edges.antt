@@ -11,7 +11,7 @@ use Rattle.graph.specs.Rules.{IsEdge}
 use Rattle.graph.specs.declared.job.Job.{Job}
 use Rattle.graph.specs.declared.net.Edge.{Edge}
 use Rattle.graph.specs.declared.net.Net.{Net}
-use Rattle.tables.specs.Named.{no_edge, edge_at, job_at}
+use Rattle.tables.specs.Named.{no_edge, edge_at}
 use Rattle.net_run.specs.Words.{port_words, with_words, edge_words, carried}
 use Rattle.job_book.specs.Known.{Book}
 use Rattle.cluster_plan.proofs.Numbers.{at_number, inside}

@@ -1,7 +1,7 @@
 -- What a walk over the things that are due knows of each place that it has passed.
-use Rattle.std.proofs.Common.{◌≡◌, inl, inr, ℕ, ◌+◌, ◌<◌, ◌≤◌, List, length, get_or, Option, None, Some, true, false, sym, ◌∙◌, subst, arith}
+use Rattle.std.proofs.Common.{◌≡◌, inl, inr, ℕ, ◌+◌, ◌<◌, List, length, get_or, Option, Some, true, sym, ◌∙◌, subst, arith}
 use Rattle.std.proofs.lemmas.Bool.{cases_eq, cases_lt, true≢false}
-use Rattle.agenda.specs.Due.{IsDue, FirstFrom, is_passed}
+use Rattle.agenda.specs.Due.{FirstFrom, is_passed}
 use Rattle.agenda.proofs.Walking.{none_passed, passes_none, less_true}
 
 module _ (due : List ℕ) (number : ℕ) (P : ℕ → Type 0) (other : (place : ℕ) → place < length due → (get_or due place 0 ≡ number → ⊥) → P place) where

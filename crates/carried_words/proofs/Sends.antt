@@ -1,10 +1,9 @@
 -- Which messages have a word of a frame.
-use Rattle.std.proofs.Common.{◌≡◌, inl, inr, ℕ, zero, suc, ◌+◌, ◌-◌, ◌<◌, ◌≤◌, List, [], ◌∷◌, length, get_or, map, ℤ, pos, Option, Bool, true, false, refl, sym, ◌∙◌, ap, subst, arith}
-use Rattle.std.specs.Prelude.{◌==◌, ◌&&◌, if◌then◌else◌, nat_le, nat_lt}
+use Rattle.std.proofs.Common.{◌≡◌, inl, inr, ℕ, zero, suc, ◌+◌, ◌-◌, ◌<◌, List, [], ◌∷◌, length, get_or, ℤ, pos, Option, Bool, true, false, refl, sym, ◌∙◌, ap, arith}
+use Rattle.std.specs.Prelude.{◌==◌, ◌&&◌, if◌then◌else◌}
 use Rattle.std.proofs.lemmas.Bool.{cases_eq, eq-eqb, ne_eqb}
-use Rattle.graph.specs.JobGraph.{JobGraph}
 use Rattle.graph.specs.declared.net.Net.{Net}
-use Rattle.tables.specs.Named.{no_message, words_of}
+use Rattle.tables.specs.Named.{no_message}
 use Rattle.tables.specs.declared.table.Message.{Message}
 use Rattle.tdma.specs.Layout.{Layout}
 use Rattle.timetable.specs.Keys.{sending_of}

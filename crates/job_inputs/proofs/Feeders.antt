@@ -1,5 +1,5 @@
 -- The ports of a job, and what feeds them.
-use Rattle.std.proofs.Common.{◌≡◌, inl, inr, ℕ, zero, suc, ◌+◌, ◌*◌, ◌<◌, ◌≤◌, length, take, List, [], ◌++◌, ℤ, Option, None, Some, refl, sym, ◌∙◌, ap, subst, arith, length-append}
+use Rattle.std.proofs.Common.{◌≡◌, inl, inr, ℕ, zero, suc, ◌+◌, ◌<◌, ◌≤◌, length, take, List, ◌++◌, ℤ, Option, None, Some, refl, sym, ◌∙◌, ap, subst, arith}
 use Rattle.std.specs.Prelude.{slice_get, slice_index, sum}
 use Rattle.std.proofs.lemmas.Bool.{cases_lt}
 use Rattle.std.proofs.lemmas.List.{take_all}
@@ -9,15 +9,14 @@ use Rattle.std.proofs.lemmas.Option.{slice_get_within, get_or_from_slice_get}
 use Rattle.graph.specs.Feeders.{EdgeFeeds, SensorFeeds, feeder_of}
 use Rattle.graph.specs.JobGraph.{JobGraph}
 use Rattle.graph.specs.Jobs.{job_number}
-use Rattle.graph.specs.Net.{ins_of, outs_of, width_of, instances, task_ins}
+use Rattle.graph.specs.Net.{ins_of, width_of, instances, task_ins}
 use Rattle.graph.specs.NetGraph.{IsNetGraph}
-use Rattle.graph.specs.Rules.{IsEdge, IsWidth, IsTask}
-use Rattle.graph.specs.declared.feeder.Feeder.{Feeder}
+use Rattle.graph.specs.Rules.{IsEdge, IsWidth}
 use Rattle.graph.specs.declared.feeder.Feeder.TheVariants as feeder
 use Rattle.graph.specs.declared.net.Edge.{Edge}
 use Rattle.graph.specs.declared.net.Net.{Net}
 use Rattle.graph.specs.declared.net.Plug.{Plug}
-use Rattle.graph.proofs.Entries.{few_ports, ports_in, task_at, joined}
+use Rattle.graph.proofs.Entries.{few_ports, task_at, joined}
 use Rattle.graph.proofs.Nets.{feeder_feeds, only_feeder}
 use Rattle.tables.specs.Named.{no_edge, edge_at, job_at}
 use Rattle.net_run.specs.Words.{with_words, brought, ports_to}

@@ -1,6 +1,5 @@
 -- What a job of a unit finds on an edge.
-use Rattle.std.proofs.Common.{◌≡◌, ℕ, ◌<◌, length, List, ℤ, Option, None, Some, Bool, true, false, cond, refl, sym, ◌∙◌, ap}
-use Rattle.std.specs.Prelude.{slice_get, nat_eq}
+use Rattle.std.proofs.Common.{◌≡◌, ℕ, ◌<◌, length, Bool, cond, sym, ◌∙◌, ap}
 use Rattle.std.specs.List.{position_or_len}
 use Rattle.std.proofs.lemmas.Bool.{ne_eqb}
 use Rattle.std.proofs.lemmas.Option.{slice_get-get_or}

@@ -1,8 +1,8 @@
 -- The messages that a unit takes at a tick.
-use Rattle.std.proofs.Common.{◌≡◌, ℕ, suc, ◌+◌, ◌-◌, ◌*◌, ◌<◌, ◌≤◌, inl, inr, List, [], length, take, drop, get_or, map, ℤ, Option, None, Some, Bool, true, false, cond, refl, sym, ◌∙◌, ap, subst, arith, length-drop}
-use Rattle.std.specs.Prelude.{◌==◌, ◌&&◌, nat_eq, nat_lt, if◌then◌else◌, pos}
+use Rattle.std.proofs.Common.{◌≡◌, ℕ, ◌+◌, ◌<◌, ◌≤◌, List, [], length, drop, get_or, ℤ, Option, None, Some, Bool, true, false, cond, refl, sym, ◌∙◌, ap, subst, arith, length-drop}
+use Rattle.std.specs.Prelude.{◌==◌, ◌&&◌, nat_eq, if◌then◌else◌, pos}
 use Rattle.std.specs.Ordering.{int_eq}
-use Rattle.std.proofs.lemmas.Bool.{cases_eq, cases_lt, eq-eqb, ne_eqb, lt-ltb}
+use Rattle.std.proofs.lemmas.Bool.{ne_eqb, lt-ltb}
 use Rattle.std.proofs.lemmas.List.{get_or-map, length-map, length-take-le, ext_get_or}
 use Rattle.mars_base.specs.declared.shape.Side.{Side}
 use Rattle.mars_base.specs.declared.shape.Side.TheVariants.{A, B}
@@ -28,7 +28,7 @@ use Rattle.job_inputs.specs.Look.{IsInboxOf}
 use Rattle.cluster_model.specs.Frame.{message_in}
 use Rattle.cluster_model.specs.Plan.{Plan, listed}
 use Rattle.cluster_model.specs.PlanOf.{plan_of}
-use Rattle.cluster_model.specs.State.{Held, taken_in}
+use Rattle.cluster_model.specs.State.{Held}
 use Rattle.cluster_model.specs.Tick.{a_or_b, received, took}
 use Rattle.replica.specs.OnBus.{IsBusOf, slots_on, bus_on}
 use Rattle.replica.specs.Takes.{AreWidths}

@@ -1,22 +1,19 @@
 -- The slots of a replica that falls silent.
-use Rattle.std.proofs.Common.{◌≡◌, ℕ, suc, ◌+◌, ◌<◌, ◌≤◌, inl, inr, List, [], ◌∷◌, ◌++◌, length, set, map, get_or, ℤ, Option, None, Some, Bool, true, false, refl, sym, ◌∙◌, ap, subst, arith}
+use Rattle.std.proofs.Common.{◌≡◌, ℕ, ◌<◌, inl, inr, List, [], ◌∷◌, length, set, map, ℤ, Bool, true, false, refl, sym, ◌∙◌, ap, arith}
 use Rattle.std.specs.Prelude.{if◌then◌else◌}
-use Rattle.std.specs.List.{All, list_any}
 use Rattle.std.proofs.lemmas.Bool.{cases_eq}
-use Rattle.std.proofs.lemmas.List.{get_or-map, get_or-set_other, get_or-set_same, length-map, length-set, ext_get_or}
+use Rattle.std.proofs.lemmas.List.{get_or-map, get_or-set_other, get_or-set_same, length-map, ext_get_or}
 use Rattle.std.proofs.lemmas.List.Folds.{list_any_none, list_any_at}
 use Rattle.mars_base.specs.declared.shape.Side.{Side}
 use Rattle.bus.specs.Numbers.{BusState, slot_number, slot_of, slot_count}
 use Rattle.bus.proofs.Below.{number_below}
 use Rattle.bus.specs.SlotState.{SlotState, Open, Sending, Whole, Cut, IsSending, slot_at, cut}
-use Rattle.tdma.specs.Layout.{Layout, slot_start_of}
-use Rattle.tdma.specs.declared.round.SlotPlace.{SlotPlace}
+use Rattle.tdma.specs.Layout.{Layout}
 use Rattle.replica_parts.specs.Inbox.{HasFullFrames}
 use Rattle.cluster_model.specs.Effects.{is_sending, fall_effects}
 use Rattle.cluster_model.specs.Plan.{listed}
-use Rattle.cluster_model.specs.declared.effect.Effect.{Effect}
 use Rattle.cluster_model.specs.declared.effect.Effect.TheVariants as effect
-use Rattle.replica.specs.OnBus.{slots_on, IsInSlot}
+use Rattle.replica.specs.OnBus.{slots_on}
 use Rattle.replica.proofs.Lists.{listed_at, listed_same, length_listed}
 use Rattle.replica.proofs.OwnSlots.{one_slot}
 

@@ -3,5 +3,6 @@ pub mod Closing
 pub mod Falls
 pub mod Lists
 pub mod Opening
+pub mod Outputs
 pub mod OwnSlots
 pub mod Shown

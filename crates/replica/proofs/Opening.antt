@@ -1,17 +1,17 @@
 -- The job of a unit that starts at a tick, and what the model has of all jobs then.
-use Rattle.std.proofs.Common.{◌≡◌, ◌≢◌, ℕ, suc, ◌+◌, ◌<◌, ◌≤◌, inl, inr, List, [], ◌∷◌, length, get_or, set, map, ℤ, Option, None, Some, Bool, true, false, cond, refl, sym, ◌∙◌, ap, subst, arith}
-use Rattle.std.specs.Prelude.{◌==◌, ◌&&◌, nat_eq, if◌then◌else◌}
-use Rattle.std.specs.List.{range_with_len, flat_map, position_or_len}
-use Rattle.std.proofs.lemmas.Bool.{cases_eq, eq-eqb, ne_eqb, eqb-true}
-use Rattle.std.proofs.lemmas.List.{get_or-map, get_or_past, length-map, length-set, get_or-set_same, get_or-set_other, ext_get_or}
+use Rattle.std.proofs.Common.{◌≡◌, ◌≢◌, ℕ, ◌<◌, inl, inr, List, [], length, get_or, set, map, ℤ, Option, None, Some, Bool, true, false, cond, refl, sym, ◌∙◌, ap, subst, arith}
+use Rattle.std.specs.Prelude.{◌&&◌, nat_eq, if◌then◌else◌}
+use Rattle.std.specs.List.{position_or_len}
+use Rattle.std.proofs.lemmas.Bool.{cases_eq, eq-eqb, ne_eqb}
+use Rattle.std.proofs.lemmas.List.{get_or-map, length-map, length-set, get_or-set_same, get_or-set_other, ext_get_or}
 use mathlib.Core.Path.{fun_ext}
-use Rattle.agenda.specs.Due.{Agenda, IsDue, FirstFrom}
+use Rattle.agenda.specs.Due.{Agenda, FirstFrom}
 use Rattle.graph.specs.Feeders.{from_task_of}
 use Rattle.graph.specs.JobGraph.{JobGraph}
 use Rattle.graph.specs.Jobs.{job_number}
 use Rattle.graph.specs.NetGraph.{IsNetGraph}
 use Rattle.graph.specs.declared.net.Net.{Net}
-use Rattle.tables.specs.Named.{job_at, entry_at, message_at, no_entry}
+use Rattle.tables.specs.Named.{job_at, entry_at, no_entry}
 use Rattle.tables.specs.Valid.{AreValid}
 use Rattle.tables.specs.declared.rule.TableRule.TheVariants as rule
 use Rattle.tables.specs.declared.table.JobEntry.{JobEntry}
@@ -19,7 +19,7 @@ use Rattle.tables.specs.declared.table.Tables.{Tables}
 use Rattle.timetable.specs.Keys.{start_of, starts_in}
 use Rattle.net_run.specs.NetRun.{Execution}
 use Rattle.net_run.specs.Words.{carried, job_inputs}
-use Rattle.job_book.specs.Known.{Known, Waiting, InHand, Gave, Broke, PassedOver, Book, known_in, given_by, status_of}
+use Rattle.job_book.specs.Known.{Known, Waiting, InHand, Gave, Broke, PassedOver, Book, known_in, status_of}
 use Rattle.cluster_model.specs.State as status
 use Rattle.replica_parts.specs.Inbox.{Taken, taken_at}
 use Rattle.carried_words.specs.Says.{edge_says}
@@ -29,7 +29,7 @@ use Rattle.cluster_plan.proofs.Numbers.{ends_after}
 use Rattle.cluster_model.specs.Effects.{starting, start_effects}
 use Rattle.cluster_model.specs.Plan.{Plan, listed}
 use Rattle.cluster_model.specs.PlanOf.{plan_of}
-use Rattle.cluster_model.specs.Sound.{maker, Serves}
+use Rattle.cluster_model.specs.Sound.{Serves}
 use Rattle.cluster_model.specs.State.{Status, Held, Bus, given, status_in, state_in}
 use Rattle.cluster_model.specs.Tick.{begun, fed, finds, took, opens}
 use Rattle.cluster_model.specs.declared.effect.Effect.{Effect}

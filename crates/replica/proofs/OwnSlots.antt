@@ -1,19 +1,19 @@
 -- The slots of a unit's side at a tick.
-use Rattle.std.proofs.Common.{◌≡◌, ℕ, suc, ◌+◌, ◌-◌, ◌*◌, ◌/◌, ◌%◌, ◌<◌, ◌≤◌, inl, inr, List, [], ◌∷◌, ◌++◌, length, set, ℤ, Option, None, Some, Bool, true, false, cond, refl, sym, ◌∙◌, ap, subst, arith}
+use Rattle.std.proofs.Common.{◌≡◌, ℕ, ◌+◌, ◌-◌, ◌*◌, ◌/◌, ◌%◌, ◌<◌, ◌≤◌, inl, inr, List, [], ◌∷◌, ◌++◌, length, set, ℤ, Option, None, Some, Bool, true, false, cond, refl, sym, ◌∙◌, ap, subst, arith}
 use Rattle.std.specs.Prelude.{◌&&◌, nat_le, nat_lt, if◌then◌else◌, IfNone}
 use Rattle.std.specs.List.{range_with_len, flat_map}
 use Rattle.std.proofs.lemmas.Bool.{cases_eq, cases_lt, le-leb, lt-leb, lt-ltb, le-ltb, eq-eqb, ne_eqb}
-use Rattle.std.proofs.lemmas.List.{get_or-set_other, get_or-set_same, length-append, length-set}
+use Rattle.std.proofs.lemmas.List.{get_or-set_other, get_or-set_same}
 use Rattle.std.proofs.lemmas.Nat.{div-mul-add, mod-mul-add, div-add-mod'}
 use mathlib.Core.Path.{fun_ext}
 use Rattle.mars_base.specs.declared.shape.Side.{Side}
 use Rattle.mars_base.specs.declared.shape.Side.TheVariants.{A, B}
 use Rattle.bus.specs.Numbers.{BusState, slot_number, slot_of, slot_count}
 use Rattle.bus.proofs.Below.{number_below}
-use Rattle.bus.specs.SlotState.{SlotState, Open, Sending, Whole, Cut, StandsAt, slot_at, sent, put}
+use Rattle.bus.specs.SlotState.{SlotState, Open, Sending, Whole, Cut, slot_at, sent, put}
 use Rattle.tdma.specs.Layout.{Layout, slot_start_of, side_number, cycle_ticks}
 use Rattle.tables.specs.Valid.{bus_of}
-use Rattle.tdma.specs.Word.{IsPlace, IsAt, IsIdle, IsAlone}
+use Rattle.tdma.specs.Word.{IsAt, IsIdle, IsAlone}
 use Rattle.tdma.specs.declared.round.SlotPlace.{SlotPlace}
 use Rattle.graph.specs.JobGraph.{JobGraph}
 use Rattle.graph.specs.Jobs.{job_number}
@@ -23,12 +23,12 @@ use Rattle.tables.specs.Named.{message_at}
 use Rattle.tables.specs.declared.table.Tables.{Tables}
 use Rattle.net_run.specs.NetRun.{Execution}
 use Rattle.net_run.specs.Words.{carried}
-use Rattle.job_book.specs.Known.{Book, known_in, given_by}
+use Rattle.job_book.specs.Known.{Book}
 use Rattle.replica_parts.specs.Inbox.{HasFullFrames}
 use Rattle.carried_words.specs.Says.{said_in}
 use Rattle.cluster_model.specs.Plan.{Plan, listed}
 use Rattle.cluster_model.specs.PlanOf.{plan_of}
-use Rattle.cluster_model.specs.State.{Held, given, status_in}
+use Rattle.cluster_model.specs.State.{Held, status_in}
 use Rattle.cluster_model.specs.Tick.{fed, slots_after}
 use Rattle.cluster_model.specs.Frame.{word_from}
 use Rattle.cluster_model.specs.Effects.{put_effects}

@@ -1,7 +1,7 @@
 -- What is seen of the frames that a unit takes at a tick.
-use Rattle.std.proofs.Common.{◌≡◌, ℕ, suc, ◌+◌, ◌-◌, ◌*◌, ◌<◌, ◌≤◌, inl, inr, List, [], ◌∷◌, length, get_or, map, ℤ, Option, None, Some, Bool, true, false, cond, refl, sym, ◌∙◌, ap, subst, arith}
-use Rattle.std.specs.Prelude.{◌==◌, ◌&&◌, nat_eq, if◌then◌else◌}
-use Rattle.std.specs.List.{All, range_with_len, list_any, flat_map}
+use Rattle.std.proofs.Common.{◌≡◌, ℕ, ◌+◌, ◌-◌, ◌<◌, inl, inr, List, [], ◌∷◌, length, get_or, ℤ, Option, None, Some, Bool, true, false, refl, sym, ◌∙◌, ap, subst, arith}
+use Rattle.std.specs.Prelude.{◌&&◌, nat_eq, if◌then◌else◌}
+use Rattle.std.specs.List.{range_with_len, list_any, flat_map}
 use Rattle.std.proofs.lemmas.Bool.{cases_eq, eq-eqb, ne_eqb, eqb-true, and_parts}
 use Rattle.std.proofs.lemmas.List.Folds.{list_any_none, list_any_at}
 use Rattle.std.proofs.lemmas.List.FromFn.{length-range_with_len, get_or-range_with_len}
@@ -12,23 +12,21 @@ use Rattle.agenda.specs.Due.{Agenda, IsDue, FirstFrom}
 use Rattle.graph.specs.JobGraph.{JobGraph}
 use Rattle.graph.specs.NetGraph.{IsNetGraph}
 use Rattle.graph.specs.declared.net.Net.{Net}
-use Rattle.tables.specs.Named.{no_message, message_at, consumer_in}
+use Rattle.tables.specs.Named.{message_at, consumer_in}
 use Rattle.tables.specs.Valid.{AreValid, bus_of}
-use Rattle.tables.specs.declared.table.Message.{Message}
 use Rattle.tables.specs.declared.table.Tables.{Tables}
 use Rattle.tdma.specs.Layout.{Layout, IsLayout, usable_of}
 use Rattle.tdma.specs.Word.{IsAt}
 use Rattle.tdma.specs.declared.round.SlotPlace.{SlotPlace}
 use Rattle.tdma.proofs.Places.{one_place}
-use Rattle.timetable.specs.Keys.{arrival_of, arrivals_in}
+use Rattle.timetable.specs.Keys.{arrivals_in}
 use Rattle.timetable.proofs.Few.{of_cycle}
 use Rattle.net_run.specs.NetRun.{Execution}
 use Rattle.cluster_model.specs.Plan.{Plan}
 use Rattle.cluster_model.specs.PlanOf.{plan_of}
 use Rattle.cluster_model.specs.Effects.{taking, is_for, frame_effects, take_effects}
-use Rattle.cluster_model.specs.declared.effect.Effect.{Effect}
 use Rattle.replica.specs.OnBus.{IsBusOf, bus_on}
-use Rattle.replica.proofs.Arrivals.{bus_on_is, count, due_is, is_due}
+use Rattle.replica.proofs.Arrivals.{bus_on_is, count, is_due}
 use Rattle.replica.proofs.Lists.{flat_none, flat_one}
 use Rattle.replica.proofs.OwnSlots.{whole_rounds}
 

@@ -1,4 +1,5 @@
 pub mod OnBus
 pub mod Opens
+pub mod Shows
 pub mod Takes
 pub mod Tells

@@ -1,4 +1,4 @@
-use Rattle.std.proofs.Common.{◌≡◌, ◌<◌, ℕ, List, ℤ, Option, None, Some, length, sym, ◌∙◌, ap, arith}
+use Rattle.std.proofs.Common.{◌≡◌, ℕ, List, ℤ, Some, sym, ◌∙◌, ap, arith}
 use Rattle.std.specs.Prelude.{sum, slice_index}
 use Rattle.graph.specs.Net.{outs_of}
 use Rattle.graph.specs.declared.net.Edge.{Edge}

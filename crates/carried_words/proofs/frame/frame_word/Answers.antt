@@ -1,6 +1,6 @@
-use Rattle.std.proofs.Common.{◌≡◌, ◌<◌, ◌+◌, ◌-◌, ℕ, length, Option, None, Some, sym, ◌∙◌, ap, subst, arith, rules, to_z, of_z, w32}
+use Rattle.std.proofs.Common.{◌≡◌, ◌<◌, ◌+◌, ◌-◌, length, None, Some, sym, ◌∙◌, ap, subst, arith, rules, to_z, of_z, w32}
 use Rattle.graph.specs.Net.{instances}
-use Rattle.tables.specs.Named.{edge_at, message_at}
+use Rattle.tables.specs.Named.{edge_at}
 use Rattle.tables.specs.declared.rule.TableRule.TheVariants as rule
 use Rattle.tables.specs.declared.table.Message.{Message}
 use Rattle.agenda.specs.Due.{IsDue, FirstFrom}

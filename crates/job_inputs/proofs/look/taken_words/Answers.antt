@@ -1,4 +1,4 @@
-use Rattle.std.proofs.Common.{◌≡◌, ◌<◌, ◌+◌, ℕ, length, Option, None, Some, true, sym, ◌∙◌, ap, subst, arith, rules}
+use Rattle.std.proofs.Common.{◌≡◌, ◌+◌, None, Some, true, sym, ◌∙◌, ap, subst, arith, rules}
 use Rattle.agenda.specs.Due.{IsDue, FirstFrom}
 use Rattle.agenda.proofs.Walking.{IsAt, is_at}
 use Rattle.tables.specs.Named.{message_at}

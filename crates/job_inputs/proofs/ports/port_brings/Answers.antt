@@ -1,4 +1,4 @@
-use Rattle.std.proofs.Common.{◌≡◌, ◌<◌, ℕ, List, ℤ, length, Option, None, Some, sym, ◌∙◌, ap, subst}
+use Rattle.std.proofs.Common.{◌≡◌, ◌<◌, ℕ, List, ℤ, length, Some, sym, ◌∙◌, ap, subst}
 use Rattle.std.specs.Prelude.{IfSome}
 use Rattle.std.proofs.lemmas.Option.{get_or_from_slice_get}
 use Rattle.graph.specs.Feeders.{feeder_of}
@@ -7,7 +7,6 @@ use Rattle.graph.specs.Net.{instances}
 use Rattle.graph.specs.declared.feeder.Feeder.{Feeder}
 use Rattle.graph.specs.declared.feeder.Feeder.TheVariants as feeder
 use Rattle.graph.specs.declared.job.Job.{Job}
-use Rattle.graph.specs.declared.net.Plug.{Plug}
 use Rattle.tables.specs.Named.{no_job, edge_at, job_at}
 use Rattle.net_run.specs.Words.{sensor_at, brought}
 use Rattle.job_inputs.specs.Look.{looked_up}

@@ -1,4 +1,4 @@
-use Rattle.std.proofs.Common.{◌≡◌, ◌<◌, ◌+◌, ℕ, List, [], ◌∷◌, length, get_or, take, ◌∙◌, ap, arith, length-append}
+use Rattle.std.proofs.Common.{◌≡◌, ◌<◌, List, [], ◌∷◌, length, get_or, take, ◌∙◌, ap, arith, length-append}
 use Rattle.graph.specs.Cycle.{words_of_sensor, words_of_sensors}
 use Rattle.graph.specs.declared.net.Plug.{Plug}
 use Rattle.job_inputs.proofs.Lines.{words_more, words_within, each_more}

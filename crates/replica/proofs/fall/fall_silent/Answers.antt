@@ -1,4 +1,4 @@
-use Rattle.std.proofs.Common.{◌≡◌, ◌<◌, ℕ, List, [], ◌∷◌, ◌++◌, Option, None, Some, sym, ◌∙◌, ap, subst, arith, rules, append_assoc}
+use Rattle.std.proofs.Common.{◌≡◌, ◌<◌, ℕ, List, [], ◌∷◌, ◌++◌, Option, None, sym, ◌∙◌, ap, subst, arith, rules, append_assoc}
 use Rattle.bus.specs.Numbers.{slot_of}
 use Rattle.bus.specs.SlotState.{IsSending}
 use Rattle.tdma.specs.Layout.{Layout}

@@ -1,4 +1,4 @@
-use Rattle.std.proofs.Common.{◌≡◌, Option, None, Some, subst, rules}
+use Rattle.std.proofs.Common.{◌≡◌, None, rules}
 use Rattle.replica.proofs.OwnSlots.{is_own, other_unit, is_idle, idle_of}
 use Rattle.replica.proofs.put.own_place.Goals as goal
 

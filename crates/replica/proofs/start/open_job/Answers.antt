@@ -1,8 +1,8 @@
-use Rattle.std.proofs.Common.{◌≡◌, ◌<◌, ℕ, List, [], ◌∷◌, ◌++◌, length, set, map, ℤ, Option, None, Some, sym, ◌∙◌, ap, subst, arith, append-nil}
+use Rattle.std.proofs.Common.{ℕ, List, ◌++◌, set, map, ℤ, Option, sym, ◌∙◌, ap, subst, arith, append-nil}
 use Rattle.agenda.specs.Due.{FirstFrom}
 use Rattle.graph.proofs.NetGraphs.{graph_size}
 use Rattle.tables.specs.Named.{job_at}
-use Rattle.job_book.specs.Known.{Known, InHand, PassedOver, status_of}
+use Rattle.job_book.specs.Known.{InHand, PassedOver, status_of}
 use Rattle.cluster_model.specs.Effects.{starting}
 use Rattle.cluster_model.specs.PlanOf.{plan_of}
 use Rattle.cluster_model.specs.State.{state_in}

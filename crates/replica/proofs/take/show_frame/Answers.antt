@@ -1,9 +1,8 @@
-use Rattle.std.proofs.Common.{◌≡◌, ◌<◌, ℕ, List, [], ◌∷◌, ◌++◌, length, Option, None, Some, sym, ◌∙◌, ap, subst, arith, append-nil}
+use Rattle.std.proofs.Common.{◌<◌, ℕ, List, [], ◌∷◌, ◌++◌, Option, None, sym, ◌∙◌, ap, subst, arith, append-nil}
 use Rattle.mars_base.specs.declared.shape.Side.TheVariants.{A, B}
 use Rattle.bus.specs.Numbers.{slot_of}
 use Rattle.bus.specs.SlotState.{whole}
 use Rattle.agenda.specs.Due.{IsDue, FirstFrom}
-use Rattle.tables.specs.Named.{message_at}
 use Rattle.tables.specs.Valid.{bus_of}
 use Rattle.tables.specs.declared.table.Message.{Message}
 use Rattle.tdma.specs.Layout.{Layout}
