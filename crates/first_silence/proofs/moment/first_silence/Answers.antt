@@ -13,4 +13,4 @@ loop-silence-preserved c =
     let i = c.loop-silence.silence-index in
     let none : Silence = record { unit = 0; side = A; cycle = 0; tick = 0 } in
     first_more (take (i + 1) silences) (take i silences) (get_or silences i none) c.args.unit c.args.side c.loop-silence.first c.sooner-first.result c.loop-silence.invariant
-        (c.sooner-first.ensures ∙ ap (λ (m : Option Moment). sooner c.loop-silence.first m) c.own.ensures) (take_more silences i none c.loop-silence-test.true)
+    (c.sooner-first.ensures ∙ ap (λ (m : Option Moment). sooner c.loop-silence.first m) c.own.ensures) (take_more silences i none c.loop-silence-test.true)
