@@ -1,7 +1,9 @@
 -- `plan PROJECT BUDGET`.
-use Rattle.std.specs.Prelude.{◌≡◌, ◌⊎◌, ℕ, List, [], map, Some, Result, Ok, Err}
+use Rattle.std.specs.Prelude.{◌≡◌, ◌⊎◌, ℕ, List, [], Some, Result, Ok, Err}
 use Rattle.mars_base.specs.Causes.{Rose}
-use Rattle.project_graph.specs.Graphed.{bound_of_built}
+use Rattle.planned_plant.specs.Plant.{plant_of}
+use Rattle.plant.specs.declared.system.Plant.{Plant}
+use Rattle.project_image.specs.Gives.{ImageGives}
 use Rattle.project_tables.specs.Planned.{PlannedProject, planned}
 use Rattle.refusals.specs.Causes.{Counts}
 use Rattle.refusals.specs.Status.{status_of_result}
@@ -12,22 +14,31 @@ use Rattle.stages.specs.Files.{IsMissing}
 use Rattle.stages.specs.Stage.{Stage, in_turn, judging, printing}
 use Rattle.stages.specs.World.{Held}
 use Rattle.tables_text.specs.Text.{tables_text}
+use Rattle.word_code.specs.declared.code.Code.{Code}
 
 -- the text of the tables, exactly as they were found
-abbrev pub text_of : PlannedProject → List ℕ
-text_of p = tables_text p.net p.graph p.tables (map bound_of_built p.built)
+abbrev pub text_of : Plant Code → List ℕ
+text_of plant = tables_text plant.net plant.graph plant.tables plant.maxts
 
 -- what takes memory alone gives nothing
 abbrev pub IsDone : Result (Unit {0}) Refusal → Type 0
 IsDone r = r ≡ Ok tt
 
 -- memory for the text, and then the text
-abbrev pub showing : PlannedProject → Stage (Unit {0})
-showing p = in_turn (judging IsDone) (λ u. printing (text_of p))
+abbrev pub showing : Plant Code → Stage (Unit {0})
+showing plant = in_turn (judging IsDone) (λ u. printing (text_of plant))
 
--- the project, its tasks, its net, its graph and its tables, and then their text
+-- the length of the image that `build` would write, and then the text
+abbrev pub shown : (project : List ℕ) → Plant Code → Stage (Unit {0})
+shown project plant = in_turn (judging (ImageGives project plant)) (λ bytes. showing plant)
+
+-- the tables of a planned project are shown
+abbrev pub shown_plan : (project : List ℕ) → PlannedProject → Stage (Unit {0})
+shown_plan project p = shown project (plant_of p)
+
+-- the project, its tasks, its net, its graph and its tables, then its image's length, and then the text of the tables
 abbrev pub planning : List ℕ → ℕ → Stage (Unit {0})
-planning project budget = in_turn (planned project budget) showing
+planning project budget = in_turn (planned project budget) (shown_plan project)
 
 -- the input as if it were told and empty: `plan` never looks at it
 abbrev pub without_input : Held → Held

@@ -5,4 +5,4 @@ pub mod plan;
 pub mod show;
 
 pub use plan::run_plan;
-pub use show::show_plan;
+pub use show::show_made;

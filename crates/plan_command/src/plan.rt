@@ -5,13 +5,15 @@ ghost use Rattle.refusals.specs.Causes.{counts};
 ghost use Rattle.stages.specs.Stage.{Does};
 ghost use Rattle.stages.specs.World.{held};
 
-use crate::show::show_plan;
+use crate::show::show_made;
 use mars_base::{Shelf, Sink};
+use project_image::image_of;
 use project_tables::plan_project;
 use refusals::Refusal;
 use std::alloc::Global;
 
-/// Writes the tables of a project, found within a budget of steps, to the output. It writes no file.
+/// Writes the tables of a project, found within a budget of steps, to the output. It writes no file. Refused as too
+/// long, with the project's name, exactly where the image that a build would write has more than 4,194,304 bytes.
 pub fn run_plan<H: Shelf, O: Sink>(
     alloc: Global,
     project: &str,
@@ -34,5 +36,8 @@ pub fn run_plan<H: Shelf, O: Sink>(
         Ok(plan) => plan,
         Err(refused) => return Err(refused),
     };
-    show_plan(alloc, &plan, out)
+    let Ok(made) = image_of(alloc, plan) else {
+        return Err(Refusal::Memory);
+    };
+    show_made(alloc, project, &made, out)
 }

@@ -1,54 +1,70 @@
 //! The tables of a project as a text.
-ghost use Rattle.std.specs.Prelude.{◌≡◌, [], ℕ, List, Option, map};
+ghost use Rattle.std.specs.Prelude.{◌≡◌, [], ℕ, List, Option};
+ghost use Rattle.image_plant.specs.Image.{IsImage};
 ghost use Rattle.mars_base.specs.declared.file.File.{File};
-ghost use Rattle.plan_command.specs.Plan.{showing, text_of};
-ghost use Rattle.project_tables.specs.Planned.{plain_planned, IsPlanned};
+ghost use Rattle.plan_command.specs.Plan.{showing, shown, text_of};
 ghost use Rattle.refusals.specs.Causes.{counts};
 ghost use Rattle.stages.specs.Stage.{Does, printing};
 ghost use Rattle.stages.specs.World.{held};
-ghost use Rattle.task_source.specs.declared.built.BuiltTask.{BuiltTask};
 
+use image::Image;
 use lines::LineBuf;
 use mars_base::Sink;
-use project_graph::list_bounds;
-use project_tables::ProjectPlan;
+use plant::Plant;
+use project_image::image_bytes;
 use refusals::Refusal;
 use std::alloc::Global;
 use tables_text::write_tables;
+use word_code::Verified;
 
-/// Puts the text of a project's tables to the output.
-pub fn show_plan<O: Sink>(alloc: Global, plan: &ProjectPlan, out: &mut O) -> Result<(), Refusal>
-    requires { IsPlanned plan.now }
-    ensures answer { (files : Option (List File)) (left : Option (List ℕ)) (reads writes input : ℕ) → Does (showing (plain_planned plan.now))
+/// Puts the text of an image's tables to the output. Nothing is put where the image has more than 4,194,304 bytes: it
+/// is too long, with the name that is given.
+pub fn show_made<O: Sink>(
+    alloc: Global,
+    name: &str,
+    made: &Image,
+    out: &mut O,
+) -> Result<(), Refusal>
+    ensures answer { (files : Option (List File)) (left : Option (List ℕ)) (reads writes input : ℕ) → Does (shown name.now made.now)
         (held files left (O.holds out.old)) (held files left (O.holds out.new))
         (counts reads writes input (O.faults out.old)) (counts reads writes input (O.faults out.new))
         result }
 {
-    let Ok(bounds) = list_bounds(alloc, plan.tasks.as_slice()) else {
-        return Err(Refusal::Memory);
-    };
+    match image_bytes(alloc, name, made) {
+        Ok(_bytes) => show_plant(alloc, made.plant(), out),
+        Err(refused) => Err(refused),
+    }
+}
+
+// Puts the text of a plant's tables to the output.
+fn show_plant<O: Sink>(alloc: Global, plant: &Plant<Verified>, out: &mut O) -> Result<(), Refusal>
+    requires { IsImage plant.now }
+    ensures answer { (files : Option (List File)) (left : Option (List ℕ)) (reads writes input : ℕ) → Does (showing plant.now)
+        (held files left (O.holds out.old)) (held files left (O.holds out.new))
+        (counts reads writes input (O.faults out.old)) (counts reads writes input (O.faults out.new))
+        result }
+{
     let Ok(mut buffer) = LineBuf::new(alloc) else {
         return Err(Refusal::Memory);
     };
-    write_plan(&mut buffer, plan, bounds.as_slice(), out)
+    write_plant(&mut buffer, plant, out)
 }
 
 // Puts the text by way of an empty buffer.
-fn write_plan<O: Sink>(
+fn write_plant<O: Sink>(
     buffer: &mut LineBuf,
-    plan: &ProjectPlan,
-    bounds: &[u32],
+    plant: &Plant<Verified>,
     out: &mut O,
 ) -> Result<(), Refusal>
-    requires plan { IsPlanned plan.now }
-    requires bounds { bounds.now ≡ map (λ (b : BuiltTask). b.maxt) plan.now.tasks }
+    requires image { IsImage plant.now }
     requires empty { buffer.old ≡ [] }
-    ensures answer { (files : Option (List File)) (left : Option (List ℕ)) (reads writes input : ℕ) → Does (printing (text_of (plain_planned plan.now)))
+    ensures answer { (files : Option (List File)) (left : Option (List ℕ)) (reads writes input : ℕ) → Does (printing (text_of plant.now))
         (held files left (O.holds out.old)) (held files left (O.holds out.new))
         (counts reads writes input (O.faults out.old)) (counts reads writes input (O.faults out.new))
         result }
 {
-    if let Err(_fault) = write_tables(buffer, out, &plan.net, &plan.graph, &plan.tables, bounds) {
+    let maxts = plant.maxts.as_slice();
+    if let Err(_fault) = write_tables(buffer, out, &plant.net, &plant.graph, &plant.tables, maxts) {
         return Err(Refusal::WriteFault(None));
     }
     match buffer.send(out) {

@@ -11,9 +11,13 @@ use Rattle.net_tables.specs.Gives as gives
 use Rattle.plan_command.specs.Plan.{planning, text_of}
 use Rattle.plan_meaning.specs.PlanRan.{Ended, IsSearchStatus, PlanRan}
 use Rattle.plan_meaning.specs.PlanRan as plan
+use Rattle.planned_plant.specs.Plant.{plant_of}
+use Rattle.plant.specs.declared.system.Plant.{Plant}
 use Rattle.project_graph.specs.Graphed.{GraphedProject, graphed, bound_of_built}
 use Rattle.project_graph.specs.Source.{IsSourceOf}
 use Rattle.project_graph.proofs.GraphedFacts.{WasGraphed, refuses_graphed, was_graphed}
+use Rattle.project_image.proofs.Within.{refuses_image}
+use Rattle.project_image.specs.Gives.{ImageGives}
 use Rattle.project_tables.specs.Planned.{PlannedProject, planned, tabled, with_tables}
 use Rattle.refusals.specs.Causes.{Counts, Caused}
 use Rattle.refusals.specs.Status.{status_of, status_of_result}
@@ -25,6 +29,7 @@ use Rattle.stages.proofs.Gives.{both_gave, ok_once}
 use Rattle.stages.proofs.Turns.{err_once, not_err}
 use Rattle.tables.specs.declared.table.Tables.{Tables}
 use Rattle.tables_text.specs.Text.{tables_text}
+use Rattle.word_code.specs.declared.code.Code.{Code}
 
 -- refusals that no search answers
 abbrev NoSearch : Refusal → Type 0
@@ -47,6 +52,10 @@ never_graphed project b n e meant =
     refuses_graphed NoSearch project (λ name. none_of 6 (λ e. omega (arith, e)) (λ e. omega (arith, e)) (λ e. omega (arith, e)))
     (λ name. none_of 13 (λ e. omega (arith, e)) (λ e. omega (arith, e)) (λ e. omega (arith, e)))
     (λ f. none_of 3 (λ e. omega (arith, e)) (λ e. omega (arith, e)) (λ e. omega (arith, e))) b n (Err e) e meant refl
+
+-- an image that is too long
+too_long : (project : List ℕ) (plant : Plant Code) (e : Refusal) → ImageGives project plant (Err e) → NoSearch e
+too_long project plant e gives = refuses_image NoSearch project plant (none_of 13 (λ e. omega (arith, e)) (λ e. omega (arith, e)) (λ e. omega (arith, e))) (Err e) e gives refl
 
 -- a search that gave no tables
 unfound : (net : Net) (g : JobGraph) (bounds : List ℕ) (budget : ℕ) (old new : Option (List ℕ)) (e : Refusal) → new ≡ old → TablesGive net g budget (Err e) → Ended net g bounds budget old new (status_of e)
@@ -89,7 +98,7 @@ refused project budget files b n e told ends (inr (p, m, read, inl (f, judged, i
 refused project budget files b n e told ends (inr (p, m, read, inr (given, k, judged, gave))) = not_err (with_tables p given) e gave.1
 
 -- the tables of a project were found, and their text was put
-printed : (project : List ℕ) (budget : ℕ) (files : List File) (b n m : Held) (p : PlannedProject) → b.files ≡ Some files → (planned project budget).meant b m (Ok p) → n.out ≡ append_known m.out (text_of p)
+printed : (project : List ℕ) (budget : ℕ) (files : List File) (b n m : Held) (p : PlannedProject) → b.files ≡ Some files → (planned project budget).meant b m (Ok p) → n.out ≡ append_known m.out (text_of (plant_of p))
     → PlanRan project budget files b.out n.out 0
 printed project budget files b n m p told planning put =
     let one = both_gave (graphed project) (tabled budget) planning in
@@ -99,7 +108,7 @@ printed project budget files b n m p told planning put =
     let is : p ≡ with_tables g two.0 = ok_once PlannedProject p (with_tables g two.0) two.3.1 in
     let stays : m ≡ b = two.3.0 ∙ (two.2.0 ∙ was.stays) in
     let text : n.out ≡ append_known b.out (tables_text g.net g.graph two.0 (map bound_of_built g.built)) =
-    put ∙ (ap (λ (h : Held). append_known h.out (text_of p)) stays ∙ ap (λ (x : PlannedProject). append_known b.out (text_of x)) is) in
+    put ∙ (ap (λ (h : Held). append_known h.out (text_of (plant_of p))) stays ∙ ap (λ (x : PlannedProject). append_known b.out (text_of (plant_of x))) is) in
     searched project budget files b one.1 b.out n.out g 0 told was (found g.net g.graph (map bound_of_built g.built) budget b.out n.out two.0 text two.2.1)
 
 -- where the files are told, a planning that ended in its search came to what its source project means
@@ -110,8 +119,9 @@ plan_ran project budget b n c d r does ends files told = by does.how
     by : (planning project budget).meant b n r ⊎ ((e : Refusal) × (r ≡ Err e) × (planning project budget).cut b n e × Caused c d e) → PlanRan project budget files b.out n.out (status_of_result r)
     by (inl (inl stop)) =
         subst (λ (s : ℕ). PlanRan project budget files b.out n.out s) (ap status_of_result (sym stop.2)) (refused project budget files b n stop.0 told (subst IsSearchStatus (ap status_of_result stop.2) ends) stop.1)
-    by (inl (inr (p, m, first, inl stop))) = not_err tt stop.0 stop.1.1
-    by (inl (inr (p, m, first, inr (u, k, taken, put)))) =
+    by (inl (inr (p, m, first, inl stop))) = absurd (too_long project (plant_of p) stop.0 stop.1.1 (subst IsSearchStatus (ap status_of_result stop.2) ends))
+    by (inl (inr (p, m, first, inr (bytes, k, fits, inl stop)))) = not_err tt stop.0 stop.1.1
+    by (inl (inr (p, m, first, inr (bytes, k, fits, inr (u, j, taken, put))))) =
         subst (λ (s : ℕ). PlanRan project budget files b.out n.out s) (ap status_of_result (sym put.1))
-        (printed project budget files b n m p told first (ap (λ (h : Held). h.out) put.0 ∙ ap (λ (h : Held). append_known h.out (text_of p)) taken.0))
+        (printed project budget files b n m p told first (ap (λ (h : Held). h.out) put.0 ∙ ap (λ (h : Held). append_known h.out (text_of (plant_of p))) (taken.0 ∙ fits.0)))
     by (inr (e, is, cut, caused)) = absurd (caused_no_search c d e caused (subst IsSearchStatus (ap status_of_result is) ends))
