@@ -1,6 +1,6 @@
 //! The bus of a cycle.
 ghost use Rattle.std.specs.Prelude.{◌≡◌, ◌<◌, ◌≤◌, ◌+◌, ◌*◌, ◌^◌, ℕ, length, slice_set, IfOk, MatchOption, Some, None, IsTrue, ◌↔◌};
-ghost use Rattle.bus.specs.Numbers.{slot_number, slot_of};
+ghost use Rattle.bus.specs.Numbers.{slot_count, slot_number, slot_of};
 ghost use Rattle.bus.specs.SlotState.{Open as OpenState, StandsAt, IsSending, AtMostOneSends, NoOtherSends, put, cut, whole, slot_at};
 ghost use Rattle.tdma.specs.Layout.{side_number};
 
@@ -33,6 +33,7 @@ impl Bus {
     /// The bus of a cycle, with every slot open.
     pub fn new(alloc: Global, round: &Round) -> Result<Bus, Memory>
         ensures layout { IfOk result (λ b. b.layout ≡ round.now) }
+        ensures count { IfOk result (λ b. length b.slots ≡ slot_count round.now) }
         ensures open { IfOk result (λ b. (n : ℕ) → slot_at b.slots n ≡ OpenState) }
     {
         let count = round.rounds() as usize * usize::from(round.units()) * 2;
@@ -101,6 +102,7 @@ impl Bus {
     /// Opens every slot again, for the next cycle.
     pub fn clear(&mut self)
         ensures layout { self.new.layout ≡ self.old.layout }
+        ensures count { length self.new.slots ≡ slot_count self.new.layout }
         ensures open { (n : ℕ) → slot_at self.new.slots n ≡ OpenState }
     {
         self.slots.clear();
