@@ -31,7 +31,8 @@ use Rattle.cycle_events.specs.Order.{IsStart, Ends, OfCycle}
 use Rattle.cycle_events.proofs.Acting.{open_settled}
 use Rattle.cycle_events.proofs.Lists.{steps_append}
 use Rattle.cycle_events.proofs.Whole.{cycle_order}
-use Rattle.run_texts.specs.Along.{Cost, result_at}
+use Rattle.plant_run.specs.PlantRun.{Cost}
+use Rattle.run_texts.specs.Along.{result_at}
 use Rattle.run_agreement.specs.ClusterRun.{is_told, shown_in}
 
 half : (u : ℕ) (x : Side) → replica_number u x / 2 ≡ u

@@ -14,7 +14,8 @@ use Rattle.cluster_agreement.specs.Runs.{Event, steps}
 use Rattle.cluster_model.specs.Cluster.{first_state}
 use Rattle.cluster_model.specs.PlanOf.{plan_of}
 use Rattle.cluster_model.specs.State.{Status, told, State}
-use Rattle.run_texts.specs.Along.{Cost, result_at, along_net}
+use Rattle.plant_run.specs.PlantRun.{Cost}
+use Rattle.run_texts.specs.Along.{result_at, along_net}
 use Rattle.run_texts.specs.RunText.{Going, some_broke, outs_text, cycles_from, ending_from}
 use Rattle.run_texts.specs.Setting.{Setting, is_lost, some_lost}
 use Rattle.run_agreement.specs.Agreement.{AreLines, setting, RunAgreement}

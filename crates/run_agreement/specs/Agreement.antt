@@ -12,7 +12,8 @@ use Rattle.net_run.specs.Alike.{IsLine}
 use Rattle.net_run.specs.NetRun.{Execution}
 use Rattle.cluster_agreement.specs.Agreement.{IsSet}
 use Rattle.cluster_model.specs.PlanOf.{plan_of}
-use Rattle.run_texts.specs.Along.{Cost, along_net}
+use Rattle.plant_run.specs.PlantRun.{Cost}
+use Rattle.run_texts.specs.Along.{along_net}
 use Rattle.run_texts.specs.RunText.{cycles_text, run_ending}
 use Rattle.run_texts.specs.Setting.{Setting, is_lost}
 use Rattle.run_agreement.specs.ClusterRun.{along_cluster}

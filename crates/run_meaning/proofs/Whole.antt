@@ -26,11 +26,11 @@ use Rattle.word_code.specs.declared.code.Code.{Code}
 use Rattle.net_run.specs.Alike.{FitsTask, AreStates}
 use Rattle.net_run.specs.NetRun.{Skipped, Execution, CycleRun, one_cycle, first_states}
 use Rattle.net_run.proofs.Agreeing.{cycles_agree, states_fit_hold, first_states_fit_hold}
-use Rattle.plant_run.specs.PlantRun.{plant_execution}
+use Rattle.plant_run.specs.PlantRun.{Cost, plant_cost, plant_execution}
 use Rattle.cluster_agreement.specs.Agreement.{IsSet}
 use Rattle.cluster_model.specs.State.{told}
 use Rattle.cluster_plan.proofs.Numbers.{ends_after}
-use Rattle.run_texts.specs.Along.{Cost, along_net, plant_cost, setting_of}
+use Rattle.run_texts.specs.Along.{along_net, setting_of}
 use Rattle.run_texts.specs.RunText.{RunEnding, Lost, Broken, lost_text, broken_text, some_broke, outs_text, cycles_from, ending_from, cycles_text, run_ending}
 use Rattle.run_texts.specs.Setting.{Setting, some_lost}
 use Rattle.run_agreement.specs.Agreement.{AreLines}

@@ -11,10 +11,10 @@ use Rattle.project_source.specs.Run.{state_words, source_execution}
 use Rattle.carries.specs.Carries.{Carries}
 use Rattle.word_code.specs.Execution.{exec}
 use Rattle.word_code.specs.declared.code.Code.{Code}
-use Rattle.plant_run.specs.PlantRun.{plant_execution}
+use Rattle.plant_run.specs.PlantRun.{Cost, plant_cost, plant_execution}
 use Rattle.cluster_model.specs.Plan.{Plan}
 use Rattle.cluster_model.specs.PlanOf.{plan_of}
-use Rattle.run_texts.specs.Along.{Cost, along_net, along_plant, plant_cost, setting_of}
+use Rattle.run_texts.specs.Along.{along_net, along_plant, setting_of}
 use Rattle.run_texts.specs.RunText.{Going, cycles_text, run_ending}
 use Rattle.run_agreement.specs.Agreement.{AreLines}
 use Rattle.run_agreement.specs.ClusterRun.{along_cluster}

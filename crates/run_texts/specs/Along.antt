@@ -1,21 +1,16 @@
 -- Runs along a net, and that of a plant.
-use Rattle.std.specs.Prelude.{ℕ, ℤ, List, get_or, slice_get, slice_index, Option, None, Some}
+use Rattle.std.specs.Prelude.{ℕ, ℤ, List, get_or, Option, None, Some}
 use Rattle.script.specs.declared.script.Silence.{Silence}
 use Rattle.graph.specs.JobGraph.{JobGraph}
 use Rattle.graph.specs.declared.net.Net.{Net}
 use Rattle.tables.specs.Named.{job_at, entry_at}
 use Rattle.net_run.specs.NetRun.{JobResult, Done, Broken, Skipped, Execution, one_cycle, state_before, inputs_of, first_states}
 use Rattle.plant.specs.declared.system.Plant.{Plant}
-use Rattle.plant_run.specs.PlantRun.{plant_execution}
-use Rattle.processor.specs.Ends.{cycles_in}
+use Rattle.plant_run.specs.PlantRun.{Cost, plant_cost, plant_execution}
 use Rattle.processor.specs.Results.{Ran}
 use Rattle.cluster_model.specs.State.{told}
 use Rattle.run_texts.specs.RunText.{Going}
 use Rattle.run_texts.specs.Setting.{Setting}
-
--- what an execution takes from its state and its inputs
-abbrev pub Cost : Type 0
-Cost = (task : ℕ) → (state ins : List ℤ) → ℕ
 
 -- the cycles of a job that is done
 abbrev pub spent : Cost → (task : ℕ) → (state : List ℤ) → Option (List ℤ) → JobResult → ℕ
@@ -40,17 +35,9 @@ module _ (net : Net) (g : JobGraph) (words : List ℕ) (exec : Execution) (cost 
   }
 
 module _ {P : Type 0} (execution : P → (limit : ℕ) → (state ins : List ℤ) → Ran) (plant : Plant P) where
-  abbrev pub cycles_at : Option P → (maxt : ℕ) → (state ins : List ℤ) → ℕ
-  cycles_at None maxt state ins = 0
-  cycles_at (Some program) maxt state ins = cycles_in (execution program maxt state ins)
-
-  -- the cycles of an execution of a task's program under its greatest number of cycles
-  abbrev pub plant_cost : Cost
-  plant_cost task state ins = cycles_at (slice_get plant.programs task) (slice_index plant.maxts task) state ins
-
   -- the run of the plant
   abbrev pub along_plant : Going (List (List ℤ))
-  along_plant = along_net plant.net plant.graph plant.states (plant_execution execution plant) plant_cost
+  along_plant = along_net plant.net plant.graph plant.states (plant_execution execution plant) (plant_cost execution plant)
 
 abbrev pub setting_of : {P : Type 0} → Plant P → List Silence → Setting
 setting_of plant silences = record { net = plant.net; graph = plant.graph; ends = λ job. (entry_at plant.tables job).end; maxts = plant.maxts; silences = silences }
