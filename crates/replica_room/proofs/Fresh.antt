@@ -1,7 +1,8 @@
 -- What a replica holds at the start of a cycle.
-use Rattle.std.proofs.Common.{◌≡◌, ℕ, List, [], length, map, replicate, ℤ, pos, None, Some, Result, Ok, Err, Bool, true, false, cond, refl, sym, ◌∙◌, ap, arith}
+use Rattle.std.proofs.Common.{◌≡◌, ℕ, ◌<◌, List, [], length, get_or, map, replicate, ℤ, pos, None, Some, Result, Ok, Err, Bool, true, false, cond, refl, sym, ◌∙◌, ap, arith}
 use Rattle.std.specs.Prelude.{IfOk, nat_eq, slice_index, sum}
-use Rattle.std.proofs.lemmas.List.{get_or-map, length-map}
+use Rattle.std.proofs.lemmas.Bool.{eq-eqb}
+use Rattle.std.proofs.lemmas.List.{get_or-map, length-map, length-replicate}
 use Rattle.std.proofs.lemmas.List.FromFn.{fill_by_all}
 use Rattle.graph.specs.Cycle.{first_job}
 use Rattle.graph.specs.JobGraph.{JobGraph}
@@ -82,6 +83,17 @@ fresh_inbox net t widths (Err fault) e same count none = tt
 zeros_if : (b : Bool) (n : ℕ) → replicate (cond b n 0) (pos 0) ≡ cond b (replicate n (pos 0)) []
 zeros_if true n = refl
 zeros_if false n = refl
+
+-- the state of a unit's own task has its words
+pub own_fits : (net : Net) (g : JobGraph) (t : Tables) (words : List ℕ) (unit : ℕ) (exec : Execution) (cost : ℕ → List ℤ → List ℤ → ℕ) (states : List (List ℤ)) (task : ℕ)
+    → states ≡ first_held_states (plan_of net g t words exec cost) unit → task < length net.tasks → (entry_at t (first_job net g.cycle task)).unit ≡ unit
+    → length (get_or states task []) ≡ slice_index words task
+own_fits net g t words unit exec cost states task e low own =
+    let state : ℕ → List ℤ = λ k. cond (nat_eq (entry_at t (first_job net g.cycle k)).unit unit) (replicate (slice_index words k) (pos 0)) [] in
+    ap (λ (ss : List (List ℤ)). length (get_or ss task [])) e
+    ∙ ap (λ (s : List ℤ). length s) (listed_at (length net.tasks) state task [] low)
+    ∙ ap (λ (b : Bool). length (cond b (replicate (slice_index words task) (pos 0)) [])) (eq-eqb (entry_at t (first_job net g.cycle task)).unit unit own)
+    ∙ length-replicate (slice_index words task) (pos 0)
 
 -- states with the words of the unit's own tasks
 pub states_are : (net : Net) (g : JobGraph) (t : Tables) (words : List ℕ) (unit : ℕ) (exec : Execution) (cost : ℕ → List ℤ → List ℤ → ℕ) (counts : List ℕ) (states : List (List ℤ))

@@ -5,7 +5,7 @@ use Rattle.replica_room.proofs.states.own_words.Goals as goal
 
 pub loop-task-preserved : goal.loop-task-preserved
 loop-task-preserved c =
-    let own = own_words c.args.net.now c.args.graph.now c.args.tables.now c.args.words.now c.args.unit in
+    let own : ℕ → ℕ = own_words c.args.net.now c.args.graph.now c.args.tables.now c.args.words.now c.args.unit in
     let k = c.loop-task.task in
     record {
       counts = c.in_ok-push.ensures.items
