@@ -1,6 +1,6 @@
 -- The job of a unit that starts at a tick, and what the model has of all jobs then.
 use Rattle.std.proofs.Common.{◌≡◌, ◌≢◌, ℕ, ◌<◌, inl, inr, List, [], length, get_or, set, map, ℤ, Option, None, Some, Bool, true, false, cond, refl, sym, ◌∙◌, ap, subst, arith}
-use Rattle.std.specs.Prelude.{◌&&◌, nat_eq, if◌then◌else◌}
+use Rattle.std.specs.Prelude.{⊤, ◌&&◌, nat_eq, if◌then◌else◌}
 use Rattle.std.specs.List.{position_or_len}
 use Rattle.std.proofs.lemmas.Bool.{cases_eq, eq-eqb, ne_eqb}
 use Rattle.std.proofs.lemmas.List.{get_or-map, length-map, length-set, get_or-set_same, get_or-set_other, ext_get_or}
@@ -204,3 +204,17 @@ module _ (net : Net) (g : JobGraph) (t : Tables) (n : IsNetGraph net g) (v : Are
           any_status s i s' i' (Gave outs) other = refl
           any_status s i s' i' Broke other = refl
           any_status s i s' i' PassedOver other = refl
+
+abbrev IsElse : Known → Type 0
+IsElse Waiting = ⊤
+IsElse InHand = ⊥
+IsElse (Gave outs) = ⊤
+IsElse Broke = ⊤
+IsElse PassedOver = ⊤
+
+-- where a job is skipped none is in hand but those that were
+pub none_taken : (jobs : List Known) (job k : ℕ) → job < length jobs → get_or (set jobs job PassedOver) k Waiting ≡ InHand → get_or jobs k Waiting ≡ InHand
+none_taken jobs job k low e = elim (cases_eq k job) [
+  | inl here ↦ (let z : PassedOver ≡ InHand = sym (get_or-set_same jobs job PassedOver Waiting low) ∙ ap (λ x. get_or (set jobs job PassedOver) x Waiting) (sym here) ∙ e in absurd (subst IsElse z tt))
+  | inr other ↦ sym (get_or-set_other jobs job k PassedOver Waiting other) ∙ e
+]

@@ -1,5 +1,5 @@
 //! The third part of a tick: the job that starts.
-ghost use Rattle.std.specs.Prelude.{◌≡◌, ◌≢◌, ◌≤◌, ◌<◌, ◌+◌, ◌++◌, ℕ, List, ℤ, Some, IfSome, length, map, sum};
+ghost use Rattle.std.specs.Prelude.{◌≡◌, ◌≢◌, ◌≤◌, ◌<◌, ◌+◌, ◌++◌, ℕ, List, ℤ, None, Some, IfSome, length, map, slice_set, sum};
 ghost use Rattle.graph.specs.Cycle.{sensor_words};
 ghost use Rattle.graph.specs.Net.{ins_of};
 ghost use Rattle.graph.specs.NetGraph.{IsNetGraph};
@@ -68,6 +68,9 @@ pub fn open_job(
         → inbox.now.words ≡ listed (length tables.now.messages) (took (plan_of net.now graph.now tables.now words exec cost) bus unit h)
         → seen.new ≡ seen.old ++ start_effects (plan_of net.now graph.now tables.now words exec cost) bus line.now unit h }
     ensures few { length seen.new ≤ length seen.old + 1 }
+    ensures in_hand { IfSome result (λ job. book.new.jobs ≡ slice_set book.old.jobs job InHand) }
+    ensures no_more { result ≡ None → (k : ℕ) → known_in book.new k ≡ InHand → known_in book.old k ≡ InHand }
+    ensures still { ((job : ℕ) → job < length graph.now.jobs → StartsAt tables.now unit tick job → ⊥) → ins.new ≡ ins.old }
 {
     let Some(first) = starts.first(tick as usize) else {
         return None;
