@@ -25,7 +25,7 @@ half : (u : ℕ) (x : Side) → replica_number u x / 2 ≡ u
 half u A = omega arith
 half u B = omega arith
 
-fresh_at : (p : Plan) (u : ℕ) (x : Side) → u < p.units → member_of (first_state p).members u x ≡ fresh_member p u
+pub fresh_at : (p : Plan) (u : ℕ) (x : Side) → u < p.units → member_of (first_state p).members u x ≡ fresh_member p u
 fresh_at p u x l = listed_at (2 * p.units) (λ n. fresh_member p (n / 2)) (replica_number u x) no_member (number_within p.units u x l) ∙ ap (fresh_member p) (half u x)
 
 abbrev pub Said : Type 1

@@ -1,0 +1,4 @@
+pub mod Along
+pub mod Lists
+pub mod Places
+pub mod Whole
