@@ -70,6 +70,7 @@ pub fn open_job(
     ensures few { length seen.new ≤ length seen.old + 1 }
     ensures in_hand { IfSome result (λ job. book.new.jobs ≡ slice_set book.old.jobs job InHand) }
     ensures no_more { result ≡ None → (k : ℕ) → known_in book.new k ≡ InHand → known_in book.old k ≡ InHand }
+    ensures keeps { (k : ℕ) → known_in book.old k ≡ InHand → known_in book.new k ≡ InHand }
     ensures still { ((job : ℕ) → job < length graph.now.jobs → StartsAt tables.now unit tick job → ⊥) → ins.new ≡ ins.old }
 {
     let Some(first) = starts.first(tick as usize) else {

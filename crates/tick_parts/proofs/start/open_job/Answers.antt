@@ -114,3 +114,15 @@ returns-else-gather-clause-still c =
     let net = c.args.net.now in let g = c.args.graph.now in let t = c.args.tables.now in let a = c.args.starts.now in let n = c.requires.net in let v = c.requires.valid in let unit = c.args.unit in let tick = c.args.tick in
     let w = first_starts net g t n v unit tick a c.requires.starts c.requires.tick c.first.result c.in-Some.first c.in-Some.is c.first.ensures in
     λ none. absurd (none c.in-Some.first w.0 w.1)
+
+pub returns-then-gather-clause-keeps : goal.returns-then-gather-clause-keeps
+returns-then-gather-clause-keeps c =
+    let net = c.args.net.now in let g = c.args.graph.now in let t = c.args.tables.now in let a = c.args.starts.now in let n = c.requires.net in let v = c.requires.valid in let unit = c.args.unit in let tick = c.args.tick in
+    let w = first_starts net g t n v unit tick a c.requires.starts c.requires.tick c.first.result c.in-Some.first c.in-Some.is c.first.ensures in
+    λ k e. absurd (c.requires.free c.in-Some.first k w.0 w.1 e)
+
+pub returns-else-gather-clause-keeps : goal.returns-else-gather-clause-keeps
+returns-else-gather-clause-keeps c =
+    let net = c.args.net.now in let g = c.args.graph.now in let t = c.args.tables.now in let a = c.args.starts.now in let n = c.requires.net in let v = c.requires.valid in let unit = c.args.unit in let tick = c.args.tick in
+    let w = first_starts net g t n v unit tick a c.requires.starts c.requires.tick c.first.result c.in-Some.first c.in-Some.is c.first.ensures in
+    λ k e. absurd (c.requires.free c.in-Some.first k w.0 w.1 e)
