@@ -109,3 +109,11 @@ states_are net g t words unit exec cost counts states e s =
     (λ k low. get_or-map zeros (listed n own) k 0 [] (omega (arith, low, length_listed n own))
     ∙ ap zeros (listed_at n own k 0 low)
     ∙ zeros_if (nat_eq (entry_at t (first_job net g.cycle k)).unit unit) (slice_index words k))
+
+-- there is a state for each task
+pub states_count : (net : Net) (g : JobGraph) (t : Tables) (words : List ℕ) (unit : ℕ) (counts : List ℕ) (states : List (List ℤ))
+    → counts ≡ listed (length net.tasks) (own_words net g t words unit) → states ≡ first_states counts
+    → length states ≡ length net.tasks
+states_count net g t words unit counts states e s =
+    let zeros : ℕ → List ℤ = λ k. replicate k (pos 0) in
+    ap (λ (ss : List (List ℤ)). length ss) s ∙ length-map counts zeros ∙ ap (λ (ks : List ℕ). length ks) e ∙ length_listed (length net.tasks) (own_words net g t words unit)

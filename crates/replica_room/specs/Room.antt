@@ -13,6 +13,7 @@ pub record IsFirstRoom {P : Type 0} (plant : Plant P) (unit : ℕ) (room : Room)
   pub jobs : AreFreshJobs plant.net plant.graph room.book
   pub messages : AreFreshMessages plant.net plant.tables room.inbox
   pub states : (exec : Execution) (cost : ℕ → List ℤ → List ℤ → ℕ) → room.states ≡ first_held_states (plan_of plant.net plant.graph plant.tables plant.states exec cost) unit
+  pub tasks : length room.states ≡ length plant.net.tasks
   pub ins : room.ins ≡ []
   pub outs : length room.outs.items ≡ 256
   pub state : (task : ℕ) → slice_index plant.states task ≤ length room.state.items

@@ -26,8 +26,9 @@ pub fn states_of(
 ) -> Result<TaskStates, Memory>
     requires net { IsNetGraph net.now graph.now }
     requires words { length words.now ≡ length net.now.tasks }
-    ensures { (exec : Execution) (cost : ℕ → List ℤ → List ℤ → ℕ)
+    ensures states { (exec : Execution) (cost : ℕ → List ℤ → List ℤ → ℕ)
         → IfOk result (λ states. states ≡ first_held_states (plan_of net.now graph.now tables.now words.now exec cost) unit) }
+    ensures count { IfOk result (λ states. length states ≡ length net.now.tasks) }
 {
     let counts = own_words(alloc, net, graph, tables, words, unit)?;
     TaskStates::new(alloc, counts.as_slice())
