@@ -1,9 +1,7 @@
 -- What feeds a job, and where it starts.
-use Rattle.std.proofs.Common.{◌≡◌, ℕ, zero, suc, ◌+◌, ◌-◌, ◌<◌, ◌≤◌, ◌⊎◌, inl, inr, Bool, true, false, not, ◌&&◌, ◌||◌, leb, max, if◌then◌else◌, List, [], ◌∷◌, ◌++◌, length, get_or, drop, Option, Some, None, refl, sym, ap, ◌∙◌, subst, arith, leb-true, leb-false, le-leb, ◌*◌, mul-le-mul_right}
-use Rattle.std.specs.Prelude.{◌==◌, slice_get, is_some, IfSome}
-use Rattle.std.specs.List.{list_all}
+use Rattle.std.proofs.Common.{◌≡◌, ℕ, zero, suc, ◌+◌, ◌-◌, ◌<◌, ◌≤◌, ◌⊎◌, inl, inr, Bool, true, false, ◌&&◌, ◌||◌, leb, max, if◌then◌else◌, List, [], ◌∷◌, ◌++◌, length, get_or, drop, Option, Some, None, refl, sym, ap, ◌∙◌, subst, arith, leb-true, leb-false, le-leb, ◌*◌, mul-le-mul_right}
+use Rattle.std.specs.Prelude.{◌==◌, is_some, IfSome}
 use Rattle.std.proofs.Math.Seq.{drop-cons}
-use Rattle.std.proofs.lemmas.Option.{slice_get-get_or}
 use Rattle.mars_base.specs.declared.shape.Side.TheVariants.{A}
 use Rattle.tdma.specs.Layout.{Layout, IsLayout, slot_start_of, usable_of}
 use Rattle.tdma.proofs.Places.{round_some}
@@ -13,9 +11,8 @@ use Rattle.decisions.specs.declared.placed.Ticks.{Ticks}
 use Rattle.decisions.specs.declared.problem.Feed.{Feed}
 use Rattle.decisions.specs.declared.problem.Problem.{Problem}
 use Rattle.decisions.specs.Decision.{Decision, work_at, decision_on}
-use Rattle.decisions.specs.Place.{words_sent, taken_before, Waiting, has_room, first_room, sent_in, sent_over, fed_by, fed, ticks_on, is_free, first_free, decided, placed_after, place}
-use Rattle.decisions.specs.Choices.{is_placed, is_ready, is_allowed, is_home}
-use Rattle.decisions.specs.IsProblem.{IsProblem}
+use Rattle.decisions.specs.Place.{words_sent, taken_before, Waiting, has_room, first_room, fed_by, fed, ticks_on, is_free, first_free, decided, placed_after, place}
+use Rattle.decisions.specs.Choices.{is_home}
 use Rattle.reached.proofs.Good.{on_is, IsGood}
 use Rattle.placement.specs.declared.pending.Spot.{Spot}
 use Rattle.placement.specs.Feeding.{spot_of, unit_at, is_unit, sent_from, fed_from, behind, passed}

@@ -4,20 +4,19 @@ use Rattle.std.specs.Prelude.{slice_get, slice_set, slice_index_or, count_by, na
 use Rattle.std.proofs.lemmas.List.{get_or-replicate, length-replicate}
 use Rattle.std.proofs.lemmas.List.Sums.{sum_by-cons}
 use Rattle.std.proofs.lemmas.Option.{slice_get-get_or, get_or_from_slice_get}
-use Rattle.walks.specs.First.{Reaches}
 use Rattle.walks.proofs.Right.{reaches_on}
 use Rattle.tdma.specs.Layout.{Layout}
 use Rattle.tdma.specs.Load.{Load, taken_in}
 use Rattle.decisions.specs.declared.placed.Sent.{Sent}
 use Rattle.decisions.specs.declared.problem.Problem.{Problem}
-use Rattle.decisions.specs.Decision.{Decision, work_at, decision_on}
-use Rattle.decisions.specs.Place.{words_sent, words_taken}
+use Rattle.decisions.specs.Decision.{Decision, work_at}
+use Rattle.decisions.specs.Place.{words_sent}
 use Rattle.decisions.specs.Choices.{choices, by_start, rules_of, IsReached}
 use Rattle.decisions.specs.IsProblem.{IsProblem}
 use Rattle.decisions.specs.Pruned.{pruned}
-use Rattle.reached.proofs.Members.{In, in_left, in_right}
-use Rattle.reached.proofs.Good.{good, IsGood, IsChoiceOf, choice_of, choice_sent, words_taken-append, AreSent, AreFramed, IsLast, last_of, IsOpen}
-use Rattle.reached.proofs.Late.{IsPast, HasNoStart, IsHopeless, hopeless_of, pruned_of}
+use Rattle.reached.proofs.Members.{In}
+use Rattle.reached.proofs.Good.{good, IsGood, IsChoiceOf, choice_of, choice_sent, words_taken-append, AreSent, AreFramed, last_of}
+use Rattle.reached.proofs.Late.{HasNoStart, hopeless_of, pruned_of}
 use Rattle.reached.proofs.Prunes.{few_decisions}
 use Rattle.placement.specs.declared.state.State.{State}
 use Rattle.placement.specs.Feeding.{IsNext, first_some, without, one_if}

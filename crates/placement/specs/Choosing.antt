@@ -1,9 +1,9 @@
 -- The choices of one job as a row of units. Only the contracts of this crate cite this.
-use Rattle.std.specs.Prelude.{◌≡◌, ℕ, ◌+◌, ◌<◌, ◌≤◌, leb, if◌then◌else◌, List, [], ◌∷◌, ◌++◌, length, map, drop, All, Option, Some, None, slice_index}
+use Rattle.std.specs.Prelude.{◌≡◌, ℕ, ◌<◌, ◌≤◌, leb, if◌then◌else◌, List, [], ◌∷◌, ◌++◌, length, map, drop, All, Option, Some, None}
 use Rattle.decisions.specs.declared.problem.Problem.{Problem}
 use Rattle.decisions.specs.declared.placed.Choice.{Choice}
 use Rattle.decisions.specs.Decision.{Decision}
-use Rattle.decisions.specs.Choices.{by_start, choices_for, is_ready, row_of}
+use Rattle.decisions.specs.Choices.{by_start, choices_for, row_of}
 use Rattle.placement.specs.declared.pending.Fit.{Fit}
 use Rattle.placement.specs.declared.cursor.Cursor.{Cursor}
 
@@ -39,15 +39,15 @@ pub record GoesOn (pr : Problem) (l : List Decision) (left : List Decision) (cho
   pub unit : choice.unit ≡ decision.unit
   pub left_is : IsLeft pr l after rest
 
--- the cursor stands before the row of a job, which is the next in the order
+-- the cursor stands before the row of a job that is ready, the next in the order behind so many
 pub record IsLook (pr : Problem) (l : List Decision) (jobs : ℕ) (c : Cursor) : Type 0 where
-  pub there : jobs < length (by_start pr (length pr.works))
-  pub jobs_is : c.jobs ≡ jobs + 1
-  pub job_is : c.job ≡ slice_index (by_start pr (length pr.works)) jobs
-  pub row_is : c.row.items ≡ map fit_of (if is_ready pr l c.job then row_of pr l c.job pr.round.units else [])
+  pub later : jobs < c.jobs
+  pub within : c.jobs ≤ length (by_start pr (length pr.works))
+  pub is : choices_for pr l (drop jobs (by_start pr (length pr.works))) ≡ row_of pr l c.job pr.round.units ++ choices_for pr l (drop c.jobs (by_start pr (length pr.works)))
+  pub row_is : c.row.items ≡ map fit_of (row_of pr l c.job pr.round.units)
   pub told_is : c.told ≡ 0
 
--- the row of the next job in the order, and the place behind it; None behind the last
+-- the row of the next ready job behind so many of the order, and the place behind it; None where there is none
 abbrev pub Looks : Problem → List Decision → (jobs : ℕ) → Option Cursor → Type 0
-Looks pr l jobs None = length (by_start pr (length pr.works)) ≤ jobs
+Looks pr l jobs None = choices_for pr l (drop jobs (by_start pr (length pr.works))) ≡ []
 Looks pr l jobs (Some c) = IsLook pr l jobs c

@@ -1,5 +1,5 @@
 -- A list of decisions as its callers see it, and what is kept beside it.
-use Rattle.std.specs.Prelude.{◌≡◌, ℕ, zero, suc, ◌+◌, ◌-◌, ◌<◌, ◌≤◌, ◌==◌, ◌||◌, not, leb, Bool, false, List, length, position, slice_get, count_by, Option, Some, vec_capacity}
+use Rattle.std.specs.Prelude.{◌≡◌, ℕ, zero, suc, ◌+◌, ◌<◌, ◌≤◌, ◌==◌, ◌||◌, not, leb, Bool, false, List, length, position, slice_get, count_by, Option, Some, vec_capacity}
 use Rattle.tdma.specs.Load.{Load, taken_in}
 use Rattle.decisions.specs.declared.problem.Problem.{Problem}
 use Rattle.decisions.specs.Decision.{Decision, work_at}

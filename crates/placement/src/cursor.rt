@@ -1,9 +1,9 @@
 //! How far the choices after a list have been looked at.
-ghost use Rattle.std.specs.Prelude.{◌≡◌, ◌+◌, ◌<◌, ◌≤◌, ℕ, List, [], length, map, MatchOption, if◌then◌else◌};
+ghost use Rattle.std.specs.Prelude.{◌≡◌, ◌+◌, ◌<◌, ◌≤◌, ℕ, List, [], length, MatchOption};
 ghost use Rattle.decisions.specs.Decision.{Decision};
-ghost use Rattle.decisions.specs.Choices.{choices, is_ready as stands_ready, row_of};
+ghost use Rattle.decisions.specs.Choices.{choices};
 ghost use Rattle.placement.specs.Held.{Holds};
-ghost use Rattle.placement.specs.Choosing.{put_fit, put_fits, fit_of, IsLeft, GoesOn, Looks};
+ghost use Rattle.placement.specs.Choosing.{put_fit, put_fits, IsLeft, GoesOn, Looks};
 
 use crate::fits::{is_ready, row};
 use crate::pending::Fit;
@@ -64,33 +64,25 @@ pub(crate) fn first(state: &State) -> Cursor
     }
 }
 
-/// The row of a job: an empty one where it isn't ready.
-fn row_for(state: &State, job: u16) -> ArrayVec<Fit, 8>
-    requires holds { Holds state.now }
-    requires job { job < length state.now.problem.works }
-    ensures { result.items ≡ map fit_of (if stands_ready state.now.problem state.now.placed.items job then row_of state.now.problem state.now.placed.items job state.now.problem.round.units else []) }
-{
-    if is_ready(state, job) {
-        return row(state, job);
-    }
-    ArrayVec::new()
-}
-
-/// Goes on to the next job; None where there is none.
+/// Goes on to the next ready job; None where there is none.
 fn look(state: &State, jobs: usize) -> Option<Cursor>
     requires { Holds state.now }
     ensures { Looks state.now.problem state.now.placed.items jobs result }
 {
-    if jobs >= state.order.len() {
-        return None;
+    let mut place = jobs;
+    while place < state.order.len() {
+        let job = state.order[place];
+        if is_ready(state, job) {
+            return Some(Cursor {
+                jobs: place + 1,
+                job,
+                row: row(state, job),
+                told: 0,
+            });
+        }
+        place += 1;
     }
-    let job = state.order[jobs];
-    Some(Cursor {
-        jobs: jobs + 1,
-        job,
-        row: row_for(state, job),
-        told: 0,
-    })
+    None
 }
 
 /// The next choice; None where there is none more. Choices are made one job at a time.

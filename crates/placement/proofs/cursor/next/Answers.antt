@@ -1,4 +1,4 @@
-use Rattle.std.proofs.Common.{◌≡◌, ◌<◌, ◌≤◌, length, get_or, refl, ap, ◌∙◌, arith}
+use Rattle.std.proofs.Common.{◌≡◌, ◌<◌, length, get_or, refl, ap, ◌∙◌, arith}
 use Rattle.placement.specs.declared.pending.Fit.{Fit}
 use Rattle.placement.proofs.Looking.{look_on, look_none, tell, default_same}
 use Rattle.placement.proofs.cursor.next.Goals as goal
@@ -10,6 +10,9 @@ pub loop-cursor-preserved : goal.loop-cursor-preserved
 loop-cursor-preserved c = λ left h.
     let s = c.args.state.now in
     look_on s.problem s.placed.items c.loop-cursor.cursor c.in-Some.next left c.in-Some.ensures (omega (arith, c.loop-cursor-test.true, c.len.ensures.value)) (c.loop-cursor.invariant left h)
+
+pub loop-cursor-smaller : goal.loop-cursor-smaller
+loop-cursor-smaller c = omega (arith, c.in-Some.ensures.later, c.in-Some.ensures.within, ap length c.requires.order_is)
 
 pub returns-in-None : goal.returns-in-None
 returns-in-None c = λ left h.

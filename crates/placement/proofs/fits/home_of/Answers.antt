@@ -1,7 +1,4 @@
-use Rattle.std.proofs.Common.{◌≡◌, Some, None, sym, ap, ◌∙◌, ap₂}
-use Rattle.std.specs.Prelude.{Option}
-use Rattle.decisions.specs.Decision.{Decision, first_of_task}
-use Rattle.placement.specs.declared.pending.Spot.{Spot}
+use Rattle.std.proofs.Common.{◌≡◌, Some, None, ap, ◌∙◌, ap₂}
 use Rattle.placement.specs.Feeding.{place_in, spot_of, unit_at}
 use Rattle.reached.proofs.Good.{good}
 use Rattle.placement.proofs.Finding.{task_found}

@@ -1,7 +1,6 @@
-use Rattle.std.proofs.Common.{◌≡◌, sym, ap, ◌∙◌}
+use Rattle.std.proofs.Common.{ap, ◌∙◌}
 use Rattle.std.specs.Prelude.{is_some, slice_get}
-use Rattle.decisions.specs.Decision.{decision_on}
-use Rattle.placement.specs.Feeding.{flat, place_in}
+use Rattle.placement.specs.Feeding.{flat}
 use Rattle.reached.proofs.Good.{good}
 use Rattle.placement.proofs.Finding.{job_found, job_there}
 use Rattle.placement.proofs.fits.is_placed.Goals as goal

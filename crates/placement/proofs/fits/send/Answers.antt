@@ -1,5 +1,4 @@
-use Rattle.std.proofs.Common.{◌≡◌, ◌+◌, ◌<◌, ℕ, sym, ap, ◌∙◌, subst, arith}
-use Rattle.decisions.specs.declared.placed.Sent.{Sent}
+use Rattle.std.proofs.Common.{◌≡◌, ◌+◌, ℕ, ap, ◌∙◌, subst}
 use Rattle.decisions.specs.Place.{taken_before, words_sent}
 use Rattle.tdma.specs.Load.{taken_in}
 use Rattle.placement.specs.Feeding.{waiting_of}

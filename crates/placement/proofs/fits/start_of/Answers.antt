@@ -1,4 +1,4 @@
-use Rattle.std.proofs.Common.{◌≡◌, ◌+◌, ◌-◌, ◌<◌, suc, Some, None, sym, ap, ◌∙◌, arith}
+use Rattle.std.proofs.Common.{◌≡◌, ◌+◌, ◌-◌, suc, Some, ap, ◌∙◌, arith}
 use Rattle.decisions.specs.declared.problem.Work.{Work}
 use Rattle.decisions.specs.Decision.{work_at}
 use Rattle.decisions.specs.Place.{ticks_on, first_free, decided}

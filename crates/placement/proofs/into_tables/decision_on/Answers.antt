@@ -1,4 +1,4 @@
-use Rattle.std.proofs.Common.{◌≡◌, sym, ap, ◌∙◌, ap₂}
+use Rattle.std.proofs.Common.{ap, ◌∙◌, ap₂}
 use Rattle.placement.specs.Feeding.{place_in}
 use Rattle.reached.proofs.Good.{good}
 use Rattle.placement.proofs.Finding.{job_found}

@@ -1,5 +1,4 @@
-use Rattle.std.proofs.Common.{◌≡◌, length, refl, sym, ap, ◌∙◌, arith}
-use Rattle.decisions.specs.declared.problem.Problem.{Problem}
+use Rattle.std.proofs.Common.{refl, arith}
 use Rattle.placement.proofs.Holding.{empty_holds}
 use Rattle.placement.proofs.moves.empty.Goals as goal
 

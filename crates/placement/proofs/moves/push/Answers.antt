@@ -1,9 +1,7 @@
-use Rattle.std.proofs.Common.{◌≡◌, ◌+◌, ◌<◌, ◌≤◌, length, refl, sym, ap, ◌∙◌, subst, arith}
-use Rattle.std.specs.Prelude.{vec_capacity}
+use Rattle.std.proofs.Common.{◌+◌, ◌≤◌, refl, sym, ap, ◌∙◌, subst, arith}
 use Rattle.tdma.specs.Load.{taken_in}
 use Rattle.decisions.specs.Place.{words_sent}
 use Rattle.placement.specs.Feeding.{one_if}
-use Rattle.placement.specs.Held.{is_past}
 use Rattle.placement.specs.Loads.{AreInside, IsLoaded}
 use Rattle.placement.proofs.Holding.{next_chosen, sent_inside, sent_fits, push_holds}
 use Rattle.placement.proofs.moves.push.Goals as goal

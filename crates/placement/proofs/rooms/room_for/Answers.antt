@@ -1,4 +1,4 @@
-use Rattle.std.proofs.Common.{◌≡◌, ◌+◌, ◌<◌, ◌≤◌, sym, ap, ◌∙◌, subst, arith}
+use Rattle.std.proofs.Common.{◌≡◌, ap, ◌∙◌, subst, arith}
 use Rattle.mars_base.specs.declared.shape.Side.TheVariants.{A}
 use Rattle.tdma.specs.Layout.{Layout, IsLayout, slot_start_of}
 use Rattle.placement.proofs.Fitting.{first_for, next_for, not_fits}

@@ -1,5 +1,4 @@
-use Rattle.std.proofs.Common.{◌≡◌, true, false, sym, ap, ◌∙◌, not, leb}
-use Rattle.std.specs.Prelude.{nat_lt}
+use Rattle.std.proofs.Common.{sym, ap, ◌∙◌}
 use Rattle.decisions.specs.Pruned.{pruned}
 use Rattle.placement.specs.Held.{Held}
 use Rattle.placement.proofs.Holding.{hopeless_pruned, late_pruned, test_same}
