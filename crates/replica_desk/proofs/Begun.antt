@@ -95,6 +95,10 @@ module _ (net : Net) (g : JobGraph) (t : Tables) (n : IsNetGraph net g) (v : Are
       same_ins : (job : ℕ) → known_in d.book job ≡ InHand → ins ≡ d.ins
       same_ins job e = still (λ other low starts. free other job low starts e)
 
+      -- the job in hand keeps its inputs
+      pub went_on : (job : ℕ) → d.hand ≡ Some job → ins ≡ d.ins
+      went_on job e = same_ins job (let w : IsInHand net g t unit 1 d job = subst (HasInHand net g t unit 1 d) e h.hand in w.in_hand)
+
       goes_on : (o : Option ℕ) → HasInHand net g t unit 1 d o → HasInHand net g t unit 0 (record { clock = d.clock; hand = d.hand; book = book; states = d.states; inbox = inbox; ins = ins }) o
       goes_on None w = tt
       goes_on (Some job) w = record {

@@ -1,8 +1,9 @@
 //! The first three parts of a tick.
-ghost use Rattle.std.specs.Prelude.{◌≡◌, ◌≤◌, ◌<◌, ◌+◌, ◌++◌, ℕ, List, ℤ, length, map};
+ghost use Rattle.std.specs.Prelude.{◌≡◌, ◌≤◌, ◌<◌, ◌+◌, ◌++◌, ℕ, List, ℤ, Some, length, map};
 ghost use Rattle.mars_base.specs.declared.shape.Side.{Side};
 ghost use Rattle.graph.specs.Cycle.{sensor_words};
 ghost use Rattle.graph.specs.NetGraph.{IsNetGraph};
+ghost use Rattle.tables.specs.Named.{entry_at};
 ghost use Rattle.tables.specs.Valid.{AreValid, bus_of};
 ghost use Rattle.net_run.specs.NetRun.{Execution};
 ghost use Rattle.job_book.specs.Known.{status_of};
@@ -46,6 +47,7 @@ pub fn begin(
     ensures desk { IsDesk net.now graph.now tables.now duties.now.unit 0 desk.new }
     ensures clock { desk.new.clock ≡ desk.old.clock }
     ensures states { desk.new.states ≡ desk.old.states }
+    ensures goes_on { (job : ℕ) → desk.new.hand ≡ Some job → (entry_at tables.now job).start < desk.old.clock → (desk.old.hand ≡ Some job) × (desk.new.ins ≡ desk.old.ins) }
     ensures bus { IsBusOf (bus_of net.now graph.now) bus.new }
     ensures taken { (words : List ℕ) (exec : Execution) (cost : ℕ → List ℤ → List ℤ → ℕ)
         → desk.new.inbox.words ≡ listed (length tables.now.messages) (took (plan_of net.now graph.now tables.now words exec cost) (bus_on bus.old) duties.now.unit (held_in graph.now desk.old)) }
