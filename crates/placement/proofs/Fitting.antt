@@ -1,6 +1,6 @@
 -- What feeds a job, and where it starts.
-use Rattle.std.proofs.Common.{◌≡◌, ℕ, zero, suc, ◌+◌, ◌-◌, ◌<◌, ◌≤◌, ◌⊎◌, inl, inr, Bool, true, false, ◌&&◌, ◌||◌, leb, max, if◌then◌else◌, List, [], ◌∷◌, ◌++◌, length, get_or, drop, Option, Some, None, refl, sym, ap, ◌∙◌, subst, arith, leb-true, leb-false, le-leb, ◌*◌, mul-le-mul_right}
-use Rattle.std.specs.Prelude.{◌==◌, is_some, IfSome}
+use Rattle.std.proofs.Common.{◌≡◌, ℕ, zero, suc, ◌+◌, ◌-◌, ◌<◌, ◌≤◌, ◌⊎◌, inl, inr, Bool, true, false, ◌&&◌, leb, max, if◌then◌else◌, List, [], ◌∷◌, ◌++◌, length, get_or, drop, Option, Some, None, refl, sym, ap, ◌∙◌, subst, arith, leb-true, le-leb, ◌*◌, mul-le-mul_right}
+use Rattle.std.specs.Prelude.{is_some, IfSome}
 use Rattle.std.proofs.Math.Seq.{drop-cons}
 use Rattle.mars_base.specs.declared.shape.Side.TheVariants.{A}
 use Rattle.tdma.specs.Layout.{Layout, IsLayout, slot_start_of, usable_of}
@@ -15,7 +15,7 @@ use Rattle.decisions.specs.Place.{words_sent, taken_before, Waiting, has_room, f
 use Rattle.decisions.specs.Choices.{is_home}
 use Rattle.reached.proofs.Good.{on_is, IsGood}
 use Rattle.placement.specs.declared.pending.Spot.{Spot}
-use Rattle.placement.specs.Feeding.{spot_of, unit_at, is_unit, sent_from, fed_from, behind, passed}
+use Rattle.placement.specs.Feeding.{spot_of, unit_at, is_unit, sent_from, fed_from}
 use Rattle.placement.specs.Held.{HasWords}
 use Rattle.placement.specs.Loads.{HasRoomFor, IsFirstFor}
 
@@ -121,93 +121,6 @@ room_is pr l ms f unit from words k h u r =
 pub room_none : (pr : Problem) (l : List Decision) (ms : List Sent) (f : Load) (unit from words : ℕ) → HasWords pr l f → unit < pr.round.units → ((k : ℕ) → HasRoomFor f ms unit from words k → ⊥) → first_room pr l ms unit from words 0 pr.round.rounds ≡ None
 room_none pr l ms f unit from words h u hasnt =
     room_never pr l ms unit from words 0 pr.round.rounds (λ i a b. not_room (has_room pr l ms unit from words i) (λ t. hasnt i (room_back pr l ms f unit from words i h u (omega arith) t)))
-
--- ticks of one decision more are in the way
-free_more : (d : Decision) (l : List Decision) (unit k n : ℕ) (b : Bool) → (d.unit == unit) ≡ b → is_free ((if b then (record { start = d.start; end = d.end }) ∷ [] else []) ++ ticks_on l unit) k n ≡ (if b then (leb d.end k || leb (k + n) d.start) && is_free (ticks_on l unit) k n else is_free (ticks_on l unit) k n)
-free_more d l unit k n true e = refl
-free_more d l unit k n false e = refl
-
--- where ticks end up that are moved behind a list
-pub record IsMoved (l : List Decision) (unit start n next : ℕ) : Type 0 where
-  pub later : start ≤ next
-  pub taken : (k : ℕ) → start ≤ k → k < next → is_free (ticks_on l unit) k n ≡ false
-  pub free : next ≤ start → is_free (ticks_on l unit) start n ≡ true
-
-and_false : (a b : Bool) → b ≡ false → (a && b) ≡ false
-and_false true b h = h
-and_false false b h = refl
-
-false_and : (a b : Bool) → a ≡ false → (a && b) ≡ false
-false_and a b h = rw h refl
-
-neither : (a b : Bool) → (a || b) ≡ false → (a ≡ false) × (b ≡ false)
-neither true b h = absurd (cc)
-neither false b h = (refl, h)
-
-before_or : (k e : ℕ) → (k < e) ⊎ (e ≤ k)
-before_or k e = grind arith
-
-not_either : (e k m s : ℕ) → k < e → s < m → (leb e k || leb m s) ≡ false
-not_either e k m s a b = let x : leb e k ≡ false = grind arith in let y : leb m s ≡ false = grind arith in rw (x, y) refl
-
--- one decision on the unit
-moved_here : (d : Decision) (l : List Decision) (unit start n next : ℕ) (c : Bool) → 1 ≤ n → (leb d.end start || leb (start + n) d.start) ≡ c → IsMoved l unit (if c then start else d.end) n next
-    → (start ≤ next) × ((k : ℕ) → start ≤ k → k < next → ((leb d.end k || leb (k + n) d.start) && is_free (ticks_on l unit) k n) ≡ false) × (next ≤ start → ((leb d.end start || leb (start + n) d.start) && is_free (ticks_on l unit) start n) ≡ true)
-moved_here d l unit start n next true some e m = (
-  m.later,
-  λ k a b. and_false (leb d.end k || leb (k + n) d.start) (is_free (ticks_on l unit) k n) (m.taken k a b),
-  λ h. rw (e, m.free h) refl,
-)
-moved_here d l unit start n next false some e m =
-    let o = neither (leb d.end start) (leb (start + n) d.start) e in
-    let a = leb-false d.end start o.0 in
-    let b = leb-false (start + n) d.start o.1 in (
-      omega (arith, m.later),
-      λ k low high. elim (before_or k d.end) [
-        | inl less ↦ false_and (leb d.end k || leb (k + n) d.start) (is_free (ticks_on l unit) k n) (not_either d.end k (k + n) d.start less (omega arith))
-        | inr more ↦ and_false (leb d.end k || leb (k + n) d.start) (is_free (ticks_on l unit) k n) (m.taken k more high)
-      ],
-      λ h. absurd (omega (arith, m.later)),
-    )
-
-moved_by : (d : Decision) (l : List Decision) (unit start n next : ℕ) (b : Bool) → 1 ≤ n → (d.unit == unit) ≡ b → IsMoved l unit (if b then (if leb d.end start || leb (start + n) d.start then start else d.end) else start) n next
-    → IsMoved (d ∷ l) unit start n next
-moved_by d l unit start n next true some e m =
-    let h = moved_here d l unit start n next (leb d.end start || leb (start + n) d.start) some refl m in
-    record { later = h.0; taken = λ k a b. rw e (h.1 k a b); free = λ le. rw e (h.2 le) }
-moved_by d l unit start n next false some e m = record { later = m.later; taken = λ k a b. rw e (m.taken k a b); free = λ le. rw e (m.free le) }
-
-pub moved : (l : List Decision) (unit start n : ℕ) → 1 ≤ n → IsMoved l unit start n (passed l unit start n)
-moved [] unit start n some = record { later = omega arith; taken = λ k a b. absurd (omega arith); free = λ h. refl }
-moved (d ∷ l) unit start n some = moved_by d l unit start n (passed l unit (behind d unit start n) n) (d.unit == unit) some refl (moved l unit (behind d unit start n) n some)
-
-skipped : (ts : List Ticks) (n s k m : ℕ) → ((i : ℕ) → s ≤ i → i < s + k → is_free ts i n ≡ false) → first_free ts n s m ≡ first_free ts n (s + k) (m - k)
-skipped ts n s zero m busy = let e : s + 0 ≡ s = omega arith in let f : m - 0 ≡ m = omega arith in rw (e, f) refl
-skipped ts n s (suc k) zero busy = let f : 0 - suc k ≡ 0 = omega arith in rw f refl
-skipped ts n s (suc k) (suc m) busy =
-    let t : is_free ts s n ≡ false = busy s (omega arith) (omega arith) in
-    let e : s + suc k ≡ suc s + k = omega arith in
-    let f : suc m - suc k ≡ m - k = omega arith in
-    rw (t, e, f) (skipped ts n (suc s) k m (λ i a b. busy i (omega arith) (omega arith)))
-
--- the search for a free start goes on behind
-pub start_step : (l : List Decision) (unit n s d next : ℕ) → 1 ≤ n → next ≡ passed l unit s n → first_free (ticks_on l unit) n s (suc d - (s + n)) ≡ first_free (ticks_on l unit) n next (suc d - (next + n))
-start_step l unit n s d next some e =
-    let m = moved l unit s n some in
-    let k = next - s in
-    let a : s + k ≡ next = omega (arith, m.later) in
-    let b : suc d - (s + n) - k ≡ suc d - (next + n) = omega (arith, m.later) in
-    skipped (ticks_on l unit) n s k (suc d - (s + n)) (λ i x y. m.taken i x (omega (arith, m.later))) ∙ (rw (a, b) refl)
-
-pub start_found : (l : List Decision) (unit n s d next : ℕ) → 1 ≤ n → next ≡ passed l unit s n → next ≤ s → s + n ≤ d → Some s ≡ first_free (ticks_on l unit) n s (suc d - (s + n))
-start_found l unit n s d next some e le low =
-    let m = moved l unit s n some in
-    let t : is_free (ticks_on l unit) s n ≡ true = m.free (omega arith) in
-    let x : suc d - (s + n) ≡ suc (d - (s + n)) = omega arith in
-    rw (x, t) refl
-
-pub start_none : (l : List Decision) (unit n s d : ℕ) → d < s + n → None ≡ first_free (ticks_on l unit) n s (suc d - (s + n))
-start_none l unit n s d high = let x : suc d - (s + n) ≡ 0 = omega arith in rw x refl
 
 -- a job's decision, from what it waits for and its start
 fit_by : (pr : Problem) (l : List Decision) (job unit : ℕ) (o : Option Waiting) → o ≡ fed pr l unit (work_at pr job).feeds (Some (record { sent = []; wait = (work_at pr job).release })) → placed_after pr l job unit o ≡ place pr l job unit

@@ -1,5 +1,5 @@
 -- What is read of decisions. Only the contracts of this crate cite this.
-use Rattle.std.specs.Prelude.{◌≡◌, ℕ, ◌+◌, ◌==◌, ◌||◌, leb, max, if◌then◌else◌, cond, Bool, true, List, [], ◌∷◌, Option, Some, None, slice_get}
+use Rattle.std.specs.Prelude.{◌≡◌, ℕ, ◌==◌, max, if◌then◌else◌, cond, Bool, true, List, Option, Some, None, slice_get}
 use Rattle.decisions.specs.declared.problem.Feed.{Feed}
 use Rattle.decisions.specs.declared.problem.Problem.{Problem}
 use Rattle.decisions.specs.Decision.{Decision}
@@ -45,15 +45,6 @@ sent_from pr l w feed unit end = sent_in pr l w feed unit (first_room pr l w.sen
 abbrev pub fed_from : Problem → List Decision → (unit : ℕ) → Waiting → Feed → Option Spot → Option Waiting
 fed_from pr l unit w feed None = None
 fed_from pr l unit w feed (Some s) = if s.unit == unit then Some (record { sent = w.sent; wait = max w.wait s.end }) else sent_from pr l w feed s.unit s.end
-
--- a start behind the ticks of a decision on the unit, where n ticks from it on would share one with them
-abbrev pub behind : Decision → (unit start n : ℕ) → ℕ
-behind d unit start n = if d.unit == unit then (if leb d.end start || leb (start + n) d.start then start else d.end) else start
-
--- a start behind the ticks of each of the decisions on the unit in turn
-abbrev pub passed : List Decision → (unit start n : ℕ) → ℕ
-passed [] unit start n = start
-passed (d ∷ l) unit start n = passed l unit (behind d unit start n) n
 
 -- the decision is one of the choices
 pub record IsNext (pr : Problem) (l : List Decision) (d : Decision) : Type 0 where

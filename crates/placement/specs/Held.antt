@@ -1,9 +1,11 @@
 -- A list of decisions as its callers see it, and what is kept beside it.
-use Rattle.std.specs.Prelude.{◌≡◌, ℕ, zero, suc, ◌+◌, ◌<◌, ◌≤◌, ◌==◌, ◌||◌, not, leb, Bool, false, List, length, position, slice_get, count_by, Option, Some, vec_capacity}
+use Rattle.std.specs.Prelude.{◌≡◌, ℕ, zero, suc, ◌+◌, ◌<◌, ◌≤◌, ◌==◌, ◌||◌, not, leb, Bool, false, List, [], length, get_or, position, slice_get, count_by, Option, Some, vec_capacity}
 use Rattle.tdma.specs.Load.{Load, taken_in}
 use Rattle.decisions.specs.declared.problem.Problem.{Problem}
 use Rattle.decisions.specs.Decision.{Decision, work_at}
-use Rattle.decisions.specs.Place.{words_taken}
+use Rattle.decisions.specs.declared.placed.Ticks.{Ticks}
+use Rattle.decisions.specs.Place.{words_taken, ticks_on}
+use Rattle.unit_ticks.specs.Busy.{Busy, by_time}
 use Rattle.decisions.specs.Choices.{by_start, IsReached}
 use Rattle.decisions.specs.IsProblem.{IsProblem}
 use Rattle.placement.specs.declared.state.State.{State}
@@ -39,6 +41,16 @@ pub record HasWords (pr : Problem) (l : List Decision) (f : Load) : Type 0 where
   pub layout : f.layout ≡ pr.round
   pub taken : (unit round : ℕ) → unit < pr.round.units → round < pr.round.rounds → taken_in f unit round ≡ words_taken l unit round
 
+-- the ticks of a decision
+abbrev pub ticks_of : Decision → Ticks
+ticks_of d = record { start = d.start; end = d.end }
+
+-- each unit has the ticks that are taken on it, in the order of time, and room for those of all jobs
+pub record HasTicks (pr : Problem) (l : List Decision) (b : Busy) : Type 0 where
+  pub room : b.room ≡ length pr.works
+  pub units : length b.rows ≡ pr.round.units
+  pub each : (unit : ℕ) → unit < pr.round.units → get_or b.rows unit [] ≡ by_time (ticks_on l unit)
+
 -- all that is kept beside the list
 pub record Holds (s : State) : Type 0 where
   pub is_problem : IsProblem s.problem
@@ -47,6 +59,7 @@ pub record Holds (s : State) : Type 0 where
   pub jobs : HasPlaces s.places.items (length s.problem.works) (place_of_job s.placed.items)
   pub tasks : HasPlaces s.homes.items 64 (place_of_task s.problem s.placed.items)
   pub words : HasWords s.problem s.placed.items s.frames
+  pub ticks : HasTicks s.problem s.placed.items s.ticks
   pub order_is : s.order.items ≡ by_start s.problem (length s.problem.works)
   pub late_is : s.late ≡ count_by (is_past s.problem) s.placed.items
   pub hopeless_is : s.hopeless ≡ is_hopeless s.problem (length s.problem.works)

@@ -1,11 +1,11 @@
 //! Where jobs fit behind the decisions.
-ghost use Rattle.std.specs.Prelude.{◌≡◌, ℕ, suc, ◌+◌, ◌-◌, ◌<◌, ◌≤◌, max, [], length, map, option_map, if◌then◌else◌, IfSome, Some, None};
+ghost use Rattle.std.specs.Prelude.{◌≡◌, ℕ, ◌+◌, ◌<◌, ◌≤◌, max, [], length, map, option_map, if◌then◌else◌, IfSome, Some, None};
 ghost use Rattle.decisions.specs.declared.problem.Feed.{Feed};
 ghost use Rattle.decisions.specs.Decision.{Decision, work_at, decision_on, first_of_task};
-ghost use Rattle.decisions.specs.Place.{place, placed_after, fed, ticks_on, first_free};
+ghost use Rattle.decisions.specs.Place.{place, placed_after, fed};
 ghost use Rattle.decisions.specs.Choices.{is_placed as has_decision, is_ready as stands_ready, is_allowed as may_run, row_of};
 ghost use Rattle.placement.specs.declared.pending.Spot.{Spot};
-ghost use Rattle.placement.specs.Feeding.{waiting_of, spot_of as spot_in, unit_at, sent_from, fed_from, behind as moved, passed as moved_by};
+ghost use Rattle.placement.specs.Feeding.{waiting_of, spot_of as spot_in, unit_at, sent_from, fed_from};
 ghost use Rattle.placement.specs.Held.{Holds};
 ghost use Rattle.placement.specs.Choosing.{fit_of, fit_in};
 
@@ -172,62 +172,18 @@ fn pending_of(state: &State, job: u16, unit: u8) -> Option<Pending>
     Some(pending)
 }
 
-/// A start behind the ticks of a decision, where it would share one with them on the unit.
-fn behind(placed: &Placed, unit: u8, start: u32, length: u32) -> u32
-    ensures { result ≡ moved placed.now unit start length }
-{
-    if placed.unit() != unit || placed.end() <= start {
-        return start;
-    }
-    if u64::from(start) + u64::from(length) <= u64::from(placed.start()) {
-        return start;
-    }
-    placed.end()
-}
-
-/// A start behind the ticks of each decision on the unit in turn.
-fn passed(placed: &[Placed], unit: u8, from: u32, length: u32) -> u32
-    ensures { result ≡ moved_by placed.now unit from length }
-{
-    let mut start = from;
-    for decision in placed {
-        start = behind(decision, unit, start, length);
-    }
-    start
-}
-
-/// The first tick from which on a job of so many ticks runs alone on a unit and ends by its deadline; None where there
-/// is none.
-fn free_start(placed: &[Placed], unit: u8, from: u32, length: u32, deadline: u32) -> Option<u32>
-    requires { 1 ≤ length }
-    ensures { result ≡ first_free (ticks_on placed.now unit) length from (suc deadline - (from + length)) }
-{
-    let mut start = from;
-    while u64::from(start) + u64::from(length) <= u64::from(deadline) {
-        let next = passed(placed, unit, start, length);
-        if next <= start {
-            return Some(start);
-        }
-        start = next;
-    }
-    None
-}
-
 /// The decision on a job that waits for so much on a unit; None where it can't run there in time.
 fn start_of(state: &State, choice: Choice, pending: Pending) -> Option<Placed>
     requires holds { Holds state.now }
     requires job { choice.job < length state.now.problem.works }
+    requires unit { choice.unit < state.now.problem.round.units }
     ensures { result ≡ placed_after state.now.problem state.now.placed.items choice.job choice.unit (Some (waiting_of pending)) }
 {
     let work = work(&state.problem, usize::from(choice.job));
-    let placed = state.placed.as_slice();
-    match free_start(
-        placed,
-        choice.unit,
-        pending.wait,
-        work.length,
-        work.deadline,
-    ) {
+    let start = state
+        .ticks
+        .free_start(choice.unit, pending.wait, work.length, work.deadline);
+    match start {
         Some(start) => Some(Placed::new(choice, start, start + work.length, pending.sent)),
         None => None,
     }
@@ -237,6 +193,7 @@ fn start_of(state: &State, choice: Choice, pending: Pending) -> Option<Placed>
 pub(crate) fn fit(state: &State, choice: Choice) -> Option<Placed>
     requires holds { Holds state.now }
     requires job { choice.job < length state.now.problem.works }
+    requires unit { choice.unit < state.now.problem.round.units }
     ensures { result ≡ place state.now.problem state.now.placed.items choice.job choice.unit }
 {
     match pending_of(state, choice.job, choice.unit) {
@@ -249,7 +206,7 @@ pub(crate) fn fit(state: &State, choice: Choice) -> Option<Placed>
 fn fit_on(state: &State, job: u16, unit: u8) -> Option<Fit>
     requires holds { Holds state.now }
     requires job { job < length state.now.problem.works }
-    requires unit { unit < 8 }
+    requires unit { unit < state.now.problem.round.units }
     ensures { result ≡ fit_in (if may_run state.now.problem state.now.placed.items job unit then place state.now.problem state.now.placed.items job unit else None) }
 {
     if !is_allowed(state, job, unit) {

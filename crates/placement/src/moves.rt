@@ -4,17 +4,18 @@ ghost use Rattle.decisions.specs.Decision.{Decision, work_at};
 ghost use Rattle.decisions.specs.ProblemOf.{problem_of as problem_in};
 ghost use Rattle.graph.specs.NetGraph.{IsNetGraph};
 ghost use Rattle.placement.specs.Feeding.{IsNext, first_some, without, one_if as one_where};
-ghost use Rattle.placement.specs.Held.{Holds};
+ghost use Rattle.placement.specs.Held.{Holds, ticks_of as ticks_in};
 
 use crate::latest::{by_start, is_hopeless, is_past, work};
 use crate::rooms::{give_all, take_all};
 use crate::state::State;
-use decisions::{Placed, Problem};
+use decisions::{Placed, Problem, Ticks};
 use graph::{Graph, Net};
 use mars_base::Memory;
 use net_problem::problem_of;
 use std::alloc::Global;
 use tdma::Frames;
+use unit_ticks::UnitTicks;
 
 // How many tasks a net has at most.
 const TASKS: usize = 64;
@@ -38,6 +39,7 @@ pub(crate) fn empty(alloc: Global, net: &Net, graph: &Graph) -> Result<State, Me
     let order = by_start(alloc, &problem)?;
     let hopeless = is_hopeless(&problem);
     let frames = Frames::new(alloc, &problem.round)?;
+    let ticks = UnitTicks::new(alloc, problem.round.units(), jobs)?;
     let placed = Vec::with_capacity(alloc, jobs)?;
     let places = nothing(alloc, jobs)?;
     let homes = nothing(alloc, TASKS)?;
@@ -47,6 +49,7 @@ pub(crate) fn empty(alloc: Global, net: &Net, graph: &Graph) -> Result<State, Me
         places,
         homes,
         frames,
+        ticks,
         order,
         late: 0,
         hopeless,
@@ -59,6 +62,16 @@ fn task_of(problem: &Problem, placed: &Placed) -> usize
     ensures { result ≡ (work_at problem.now placed.now.job).task }
 {
     usize::from(work(problem, usize::from(placed.job())).task)
+}
+
+/// The ticks of a placed job.
+fn ticks_of(placed: &Placed) -> Ticks
+    ensures { result ≡ ticks_in placed.now }
+{
+    Ticks {
+        start: placed.start(),
+        end: placed.end(),
+    }
 }
 
 /// One where it is so, and else none.
@@ -98,6 +111,7 @@ pub(crate) fn push(state: &mut State, placed: Placed)
     let task = task_of(&state.problem, &placed);
     let late = state.late + one_if(is_past(&state.problem, &placed));
     take_all(&mut state.frames, placed.sent());
+    state.ticks.take(placed.unit(), ticks_of(&placed));
     set_place(&mut state.places, job, Some(place));
     note(&mut state.homes, task, place);
     state.late = late;
@@ -141,5 +155,6 @@ pub(crate) fn undo(state: &mut State)
     set_place(&mut state.places, job, None);
     forget(&mut state.homes, task, place);
     give_all(&mut state.frames, placed.sent());
+    state.ticks.give_back(placed.unit(), placed.start());
     state.late = late;
 }

@@ -1,9 +1,10 @@
 //! Decisions, and what is kept beside them.
 use decisions::{Placed, Problem};
 use tdma::Frames;
+use unit_ticks::UnitTicks;
 
-/// The decisions so far, with the places of jobs' and of tasks' first decisions, the words taken in frames, the jobs by
-/// latest start, how many jobs start after it, and whether a job has its latest start before its release.
+/// The decisions so far, with the places of jobs' and of tasks' first decisions, the words taken in frames and
+/// the ticks on units, the jobs by latest start, how many jobs start after it, and whether a job has its latest start before its release.
 #[derive(Drop)]
 pub struct State {
     /// What is to be placed.
@@ -16,6 +17,8 @@ pub struct State {
     pub homes: Vec<Option<u16>>,
     /// The words taken in frames.
     pub frames: Frames,
+    /// The ticks taken on units.
+    pub ticks: UnitTicks,
     /// The jobs by latest start and then by number.
     pub order: Vec<u16>,
     /// How many decisions start after their job's latest start.

@@ -4,6 +4,7 @@ use Rattle.decisions.specs.Place.{words_sent}
 use Rattle.placement.specs.Feeding.{one_if}
 use Rattle.placement.specs.Loads.{AreInside, IsLoaded}
 use Rattle.placement.proofs.Holding.{next_chosen, sent_inside, sent_fits, push_holds}
+use Rattle.placement.proofs.Timing.{open_ticks, ticks_more}
 use Rattle.placement.proofs.moves.push.Goals as goal
 
 pub overflow_cast-place : goal.overflow_cast-place
@@ -31,6 +32,30 @@ take_all-requires-clause-room c = λ unit round u r.
     subst (λ ms. taken_in s.frames unit round + words_sent ms unit round ≤ s.frames.layout.slot_words) (sym c.sent.ensures.value)
     (sent_fits s.problem s.placed.items c.args.placed.sent s.frames c.requires.holds.words h.sent unit round u r)
 
+pub take-requires-clause-unit : goal.take-requires-clause-unit
+take-requires-clause-unit c =
+    let s = c.args.state.now in
+    let h = next_chosen s.problem s.placed.items c.args.placed c.requires.holds.reached c.requires.next in
+    (open_ticks s.problem s.placed.items c.args.placed s.ticks c.unit.result c.ticks_of.result c.requires.holds.is_problem c.requires.holds.ticks h.choice h.room c.unit.ensures c.ticks_of.ensures).is_unit
+
+pub take-requires-clause-room : goal.take-requires-clause-room
+take-requires-clause-room c =
+    let s = c.args.state.now in
+    let h = next_chosen s.problem s.placed.items c.args.placed c.requires.holds.reached c.requires.next in
+    (open_ticks s.problem s.placed.items c.args.placed s.ticks c.unit.result c.ticks_of.result c.requires.holds.is_problem c.requires.holds.ticks h.choice h.room c.unit.ensures c.ticks_of.ensures).room
+
+pub take-requires-clause-some : goal.take-requires-clause-some
+take-requires-clause-some c =
+    let s = c.args.state.now in
+    let h = next_chosen s.problem s.placed.items c.args.placed c.requires.holds.reached c.requires.next in
+    (open_ticks s.problem s.placed.items c.args.placed s.ticks c.unit.result c.ticks_of.result c.requires.holds.is_problem c.requires.holds.ticks h.choice h.room c.unit.ensures c.ticks_of.ensures).some
+
+pub take-requires-clause-free : goal.take-requires-clause-free
+take-requires-clause-free c =
+    let s = c.args.state.now in
+    let h = next_chosen s.problem s.placed.items c.args.placed c.requires.holds.reached c.requires.next in
+    (open_ticks s.problem s.placed.items c.args.placed s.ticks c.unit.result c.ticks_of.result c.requires.holds.is_problem c.requires.holds.ticks h.choice h.room c.unit.ensures c.ticks_of.ensures).free
+
 pub set_place-requires : goal.set_place-requires
 set_place-requires c =
     let s = c.args.state.now in
@@ -52,6 +77,8 @@ append-requires c =
 pub returns-clause-holds : goal.returns-clause-holds
 returns-clause-holds c =
     let s = c.args.state.now in
+    let h = next_chosen s.problem s.placed.items c.args.placed c.requires.holds.reached c.requires.next in
     push_holds s _ c.args.placed c.len-place.result c.from-job.result c.task_of-task.result c.requires.holds c.requires.next
-    refl c.append.ensures.items c.append.ensures.room c.set_place.ensures c.note.ensures (subst (IsLoaded s.frames c.take_all.new.frames) c.sent.ensures.value c.take_all.ensures) refl
+    refl c.append.ensures.items c.append.ensures.room c.set_place.ensures c.note.ensures (subst (IsLoaded s.frames c.take_all.new.frames) c.sent.ensures.value c.take_all.ensures)
+    (ticks_more s.problem s.placed.items c.args.placed s.ticks c.take.new.self c.unit.result c.ticks_of.result c.requires.holds.ticks h.choice.is_unit c.unit.ensures c.ticks_of.ensures c.take.ensures.room c.take.ensures.rows) refl
     (ap (λ n. s.late + n) (c.one_if.ensures ∙ ap one_if c.is_past.ensures)) refl (omega (arith, c.len-place.ensures)) (c.from-job.ensures ∙ c.job.ensures) c.task_of-task.ensures

@@ -4,6 +4,8 @@ use Rattle.decisions.specs.Place.{words_sent}
 use Rattle.placement.specs.Feeding.{one_if}
 use Rattle.placement.specs.Loads.{AreInside, IsLoaded}
 use Rattle.placement.proofs.Holding.{undone_chosen, sent_inside, undone_taken, undone_late, undo_holds}
+use Rattle.placement.specs.Held.{HasTicks}
+use Rattle.placement.proofs.Timing.{ticks_less}
 use Rattle.placement.proofs.moves.undo.Goals as goal
 
 pub overflow_cast-place : goal.overflow_cast-place
@@ -45,9 +47,17 @@ give_all-requires-clause-taken c = λ unit round u r.
     subst (λ ms. words_sent ms unit round ≤ taken_in s.frames unit round) (sym c.sent.ensures.value)
     (undone_taken s c.pop.new.self.items c.in-Some.placed c.requires c.in-Some.ensures.items unit round u r)
 
+pub give_back-requires : goal.give_back-requires
+give_back-requires c =
+    let h = undone_chosen c.args.state.now c.pop.new.self.items c.in-Some.placed c.requires c.in-Some.ensures.items in
+    omega (arith, h.1.choice.is_unit, c.requires.ticks.units, c.unit.ensures)
+
 pub returns-clause-holds : goal.returns-clause-holds
 returns-clause-holds c =
     let s = c.args.state.now in
+    let h = undone_chosen s c.pop.new.self.items c.in-Some.placed c.requires c.in-Some.ensures.items in
+    let full = subst (λ xs. HasTicks s.problem xs s.ticks) c.in-Some.ensures.items c.requires.ticks in
     undo_holds s _ c.in-Some.placed c.len-place.result c.from-job.result c.task_of-task.result c.requires
-    refl c.in-Some.ensures.items (omega (arith, c.in-Some.ensures.capacity)) c.set_place.ensures c.forget.ensures (subst (IsLoaded c.give_all.new.frames s.frames) c.sent.ensures.value c.give_all.ensures) refl
+    refl c.in-Some.ensures.items (omega (arith, c.in-Some.ensures.capacity)) c.set_place.ensures c.forget.ensures (subst (IsLoaded c.give_all.new.frames s.frames) c.sent.ensures.value c.give_all.ensures)
+    (ticks_less s.problem c.pop.new.self.items c.in-Some.placed s.ticks c.give_back.new.self c.unit.result c.start.result full h.1.choice.is_unit c.unit.ensures c.start.ensures c.give_back.ensures.room c.give_back.ensures.rows) refl
     (ap (λ n. s.late - n) (c.one_if.ensures ∙ ap one_if c.is_past.ensures)) refl (omega (arith, c.len-place.ensures)) (c.from-job.ensures ∙ c.job.ensures) c.task_of-task.ensures
