@@ -1,10 +1,8 @@
 -- What an image's tables say of their entries.
-use Rattle.std.proofs.Common.{◌≡◌, ℕ, ◌+◌, ◌<◌, ◌≤◌, ◌^◌, List, length, All, get_or, inl, inr, subst, arith}
+use Rattle.std.proofs.Common.{ℕ, ◌+◌, ◌<◌, length, All, inl, inr, subst, arith}
 use Rattle.std.proofs.lemmas.Bool.{cases_lt}
 use Rattle.std.proofs.lemmas.List.Elements.{All-from_get_or}
 use Rattle.tables.specs.declared.rule.TableRule.TheVariants as rule
-use Rattle.tables.specs.declared.table.JobEntry.{JobEntry}
-use Rattle.tables.specs.declared.table.Message.{Message}
 use Rattle.tables.specs.Named.{no_entry, no_message}
 use Rattle.word_code.specs.declared.code.Code.{Code}
 use Rattle.plant.specs.declared.system.Plant.{Plant}

@@ -1,28 +1,23 @@
 -- What the steps of judging say of the fields.
-use Rattle.std.proofs.Common.{◌≡◌, ℕ, ◌<◌, ◌≤◌, ◌^◌, List, length, map, All, refl, sym, ◌∙◌, ap, subst, arith}
+use Rattle.std.proofs.Common.{◌≡◌, ℕ, List, length, map, All, sym, ◌∙◌, ap, subst}
 use Rattle.std.proofs.lemmas.List.{length-map}
 use Rattle.graph.specs.declared.net.Net.{Net}
 use Rattle.graph.specs.JobGraph.{JobGraph, IsJobGraph}
-use Rattle.graph.specs.NetGraph.{IsNetGraphFor, IsNetGraph}
+use Rattle.graph.specs.NetGraph.{IsNetGraphFor}
 use Rattle.graph.specs.Sound.{IsSound}
 use Rattle.tables.specs.declared.table.Tables.{Tables}
 use Rattle.tables.specs.declared.table.JobEntry.{JobEntry}
 use Rattle.tables.specs.declared.table.Message.{Message}
 use Rattle.tables.specs.declared.rule.TableRule.{TableRule}
 use Rattle.tables.specs.Number.{number_of}
-use Rattle.tables.specs.Valid.{AreValid, IsFirstFault}
+use Rattle.tables.specs.Valid.{IsFirstFault}
 use Rattle.word_code.specs.Typing.{IsVerified}
 use Rattle.word_code.specs.declared.code.Code.{Code}
-use Rattle.plant.specs.declared.system.Plant.{Plant}
 use Rattle.plant.specs.Lengths.{lengths_of}
 use Rattle.image_fields.specs.declared.parts.Parts.{Parts}
 use Rattle.image_fields.specs.Image.{image}
-use Rattle.image_sides.specs.Sides.{net_task, code_of, maxt_of, state_words}
-use Rattle.image_tables.specs.declared.entries.JobPart.{JobPart}
-use Rattle.image_tables.specs.declared.entries.MessagePart.{MessagePart}
-use Rattle.image_plant.specs.Image.{IsImage}
-use Rattle.image_plant.specs.Said.{net_of, codes_of, maxts_of, entry_of, message_of, tables_of, IsSaid}
-use Rattle.image_plant.proofs.Made.{IsMade, made}
+use Rattle.image_sides.specs.Sides.{net_task, maxt_of, state_words}
+use Rattle.image_plant.specs.Said.{net_of, entry_of, message_of, tables_of, IsSaid}
 use Rattle.image_sides.specs.First.{IsFirstUnverified}
 use Rattle.image.specs.declared.decoding.ImageFault.{ImageFault}
 use Rattle.image.specs.declared.decoding.ImageFault.TheVariants as fault

@@ -1,5 +1,5 @@
 -- An image's bytes say one image and no fault, and bytes have one first fault.
-use Rattle.std.proofs.Common.{◌≡◌, ℕ, ◌+◌, ◌<◌, ◌≤◌, ◌⊎◌, inl, inr, List, length, take, get_or, Result, Ok, Err, All, refl, sym, ◌∙◌, ap, subst, arith}
+use Rattle.std.proofs.Common.{◌≡◌, ℕ, ◌<◌, ◌⊎◌, inl, inr, List, length, take, get_or, Result, Ok, Err, All, refl, sym, ◌∙◌, ap, subst, arith}
 use Rattle.std.specs.Prelude.{IfOk, IfErr}
 use Rattle.std.proofs.lemmas.Bool.{cases_lt}
 use Rattle.std.proofs.lemmas.List.{get_or-take, length-take-le}
@@ -29,7 +29,7 @@ use Rattle.image_plant.proofs.Once.{image_said, one_plant, parts_said}
 use Rattle.image.specs.declared.decoding.ImageFault.{ImageFault}
 use Rattle.image.specs.declared.decoding.ImageFault.TheVariants as fault
 use Rattle.image.specs.Decoded.{IsDecoded, MayFault}
-use Rattle.image.specs.Faults.{HasBadCode, HasBadTable, Refuses, SayRefused, IsFirstFaultOf}
+use Rattle.image.specs.Faults.{HasBadTable, Refuses, SayRefused, IsFirstFaultOf}
 
 -- an image's bytes are read as its fields
 reads : (bytes : List ℕ) (plant : Plant Code) → IsImage plant → bytes ≡ image_bytes plant → whole image bytes ≡ Ok (parts_of plant)

@@ -1,5 +1,5 @@
 -- What decoding answers. Only the contracts of private functions cite this.
-use Rattle.std.specs.Prelude.{◌≡◌, ℕ, List, Result, Ok, Err}
+use Rattle.std.specs.Prelude.{◌≡◌, ℕ, List, Ok, Err}
 use Rattle.formats.specs.Format.{whole}
 use Rattle.word_code.specs.declared.code.Code.{Code}
 use Rattle.plant.specs.declared.system.Plant.{Plant}

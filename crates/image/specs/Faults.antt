@@ -1,5 +1,5 @@
 -- The first fault of bytes that aren't an image's.
-use Rattle.std.specs.Prelude.{◌≡◌, ℕ, List, All, Result, Ok, Err}
+use Rattle.std.specs.Prelude.{◌≡◌, ℕ, List, All, Ok, Err}
 use Rattle.formats.specs.Format.{whole}
 use Rattle.graph.specs.JobGraph.{JobGraph, IsJobGraph}
 use Rattle.graph.specs.NetGraph.{IsNetGraphFor}

@@ -1,5 +1,9 @@
 //! Images.
+ghost use Rattle.std.specs.Prelude.{◌≡◌};
+ghost use Rattle.graph.specs.JobGraph.{IsJobGraph};
+
 use crate::ranges::programs_fit;
+use graph::Graph;
 use plant::Plant;
 use std::marker::Model;
 use word_code::Verified;
@@ -25,21 +29,35 @@ impl Model for Image {
 
 impl Image {
     ghost use Rattle.std.specs.Prelude.{◌≡◌};
-    ghost use Rattle.graph.specs.JobGraph.{IsJobGraph};
     ghost use Rattle.plant.specs.InOrder.{IsInOrder};
     ghost use Rattle.image_plant.specs.Image.{HasPorts, IsImage};
 
-    /// Keeps a plant in order, each task of which has code with its ports and its state words. Its graph has
-    /// all its tables, as every `Graph` has.
+    /// Keeps a plant in order, each task of which has code with its ports and its state words.
     pub fn new(plant: Plant<Verified>) -> Image
         requires in_order { IsInOrder plant }
         requires ports { HasPorts plant }
-        requires graph { IsJobGraph plant.graph }
         ensures value { result ≡ plant }
         ensures image { IsImage result }
     {
-        programs_fit(plant.programs.as_slice());
-        Image { plant }
+        let Plant {
+            net,
+            graph,
+            tables,
+            programs,
+            maxts,
+            states,
+        } = plant;
+        programs_fit(programs.as_slice());
+        Image {
+            plant: Plant {
+                net,
+                graph: whole(graph),
+                tables,
+                programs,
+                maxts,
+                states,
+            },
+        }
     }
 
     /// The plant.
@@ -58,4 +76,12 @@ impl Image {
         let Image { plant } = self;
         plant
     }
+}
+
+// A graph, whose own facts are told.
+fn whole(graph: Graph) -> Graph
+    ensures same { result ≡ graph }
+    ensures whole { IsJobGraph result }
+{
+    graph
 }

@@ -7,24 +7,24 @@ use Rattle.image_carries.specs.Carry.{BytesCarry}
 use Rattle.image_plant.specs.Fields.{image_bytes}
 use Rattle.plant.specs.declared.system.Plant.{Plant}
 use Rattle.planned_plant.specs.Plant.{plant_of, project_of, IsWholePlan}
-use Rattle.project_image.specs.Gives.{ImageGives, Fits, Long}
+use Rattle.project_image.specs.Gives.{ImageWithin, Fits, Long}
 use Rattle.project_plant.proofs.Wholes.{whole_carries}
 use Rattle.project_source.specs.Project.{SourceProject}
 use Rattle.project_tables.specs.Planned.{PlannedProject}
 use Rattle.stages.proofs.Gives.{ok_once}
 use Rattle.stages.proofs.Turns.{not_err}
 use Rattle.refusals.specs.declared.refusal.Refusal.TheVariants as refusal
-use Rattle.std.specs.Prelude.{Some}
+use Rattle.std.specs.Prelude.{Option}
 use Rattle.word_code.specs.declared.code.Code.{Code}
 
-pub image_carries : (name bytes : List ℕ) (p : PlannedProject) → IsWholePlan p → ImageGives name (plant_of p) (Ok bytes) → BytesCarry bytes (project_of p)
-image_carries name bytes p whole (Fits ok is short) = record {
+pub image_carries : (blamed : Option (List ℕ)) (bytes : List ℕ) (p : PlannedProject) → IsWholePlan p → ImageWithin blamed (plant_of p) (Ok bytes) → BytesCarry bytes (project_of p)
+image_carries blamed bytes p whole (Fits ok is short) = record {
   plant = plant_of p;
   is_image = is;
   bytes_are = ok_once (List ℕ) bytes (image_bytes (plant_of p)) ok;
   carries = whole_carries p.net p.graph p.tables p.built whole;
 }
-image_carries name bytes p whole (Long refused far) = not_err bytes (refusal.TooLong (Some name)) (sym refused)
+image_carries blamed bytes p whole (Long refused far) = not_err bytes (refusal.TooLong blamed) (sym refused)
 
 -- what was read is one plant
 pub read_carries : (s : SourceProject) (plant : Plant Code) (r : Result (Plant Code) ImageFault) → Carries plant s → (r ≡ Ok plant) ⊎ (r ≡ Err fault.Memory) → IfOk r (λ p. Carries p s)

@@ -6,17 +6,17 @@ ghost use Rattle.carries.specs.Carries.{Carries};
 ghost use Rattle.image.specs.declared.decoding.ImageFault.{ImageFault};
 ghost use Rattle.image_carries.specs.Carry.{BytesCarry};
 ghost use Rattle.planned_plant.specs.Plant.{plant_of, project_of, IsWholePlan};
-ghost use Rattle.project_image.specs.Gives.{ImageGives};
+ghost use Rattle.project_image.specs.Gives.{ImageWithin};
 ghost use Rattle.project_source.specs.Project.{SourceProject};
 ghost use Rattle.project_tables.specs.Planned.{PlannedProject};
-ghost use Rattle.std.specs.Prelude.{◌≡◌, ◌≤◌, ◌⊎◌, ℕ, List, Ok, Err, IfOk, length};
+ghost use Rattle.std.specs.Prelude.{◌≡◌, ◌≤◌, ◌⊎◌, ℕ, List, Option, Ok, Err, IfOk, length};
 
 use image::{Image, ImageFault, decode};
 use std::alloc::Global;
 
 /// What holds of the image of every planned project whose parts are whole: its bytes carry the source project.
 pub fn images_carry()
-    ensures { (name bytes : List ℕ) (p : PlannedProject) → IsWholePlan p → ImageGives name (plant_of p) (Ok bytes) → BytesCarry bytes (project_of p) }
+    ensures { (blamed : Option (List ℕ)) (bytes : List ℕ) (p : PlannedProject) → IsWholePlan p → ImageWithin blamed (plant_of p) (Ok bytes) → BytesCarry bytes (project_of p) }
 {}
 
 /// The image that bytes are, at most 4,194,304 of them. Bytes that carry a source project are read as the image

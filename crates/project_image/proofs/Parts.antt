@@ -16,13 +16,12 @@ use Rattle.word_code.specs.declared.code.Code.{Code}
 abbrev pub plant_with : Net → JobGraph → Tables → List Code → List ℕ → List ℕ → Plant Code
 plant_with net graph tables programs maxts states = record { net = net; graph = graph; tables = tables; programs = programs; maxts = maxts; states = states }
 
-pub made_plant : (net : Net) (graph g : JobGraph) (tables : Tables) (built : List Built) (programs : List Code) (maxts states : List ℕ) → g ≡ graph → programs ≡ map code_in built → maxts ≡ map maxt_in built → states ≡ map sides.state_words programs
-    → All IsRunnable built → plant_with net g tables programs maxts states ≡ plant_in net graph tables built
-made_plant net graph g tables built programs maxts states same codes bounds words runnable =
-    ap (λ (x : JobGraph). plant_with net x tables programs maxts states) same
-    ∙ (ap (λ (ms : List ℕ). plant_with net graph tables programs ms states) bounds
+pub made_plant : (net : Net) (graph : JobGraph) (tables : Tables) (built : List Built) (programs : List Code) (maxts states : List ℕ) → programs ≡ map code_in built → maxts ≡ map maxt_in built → states ≡ map sides.state_words programs
+    → All IsRunnable built → plant_with net graph tables programs maxts states ≡ plant_in net graph tables built
+made_plant net graph tables built programs maxts states codes bounds words runnable =
+    ap (λ (ms : List ℕ). plant_with net graph tables programs ms states) bounds
     ∙ (ap (λ (ws : List ℕ). plant_with net graph tables programs (map maxt_in built) ws) (words ∙ (ap (map sides.state_words) codes ∙ sym (states_same built runnable)))
-    ∙ ap (λ (cs : List Code). plant_with net graph tables cs (map maxt_in built) (map states_in built)) codes))
+    ∙ ap (λ (cs : List Code). plant_with net graph tables cs (map maxt_in built) (map states_in built)) codes)
 
 -- the bounds of the tasks
 pub listed_bounds : (maxts listed : List ℕ) (lent tasks : List BuiltTask) → maxts ≡ listed → listed ≡ map (λ (b : BuiltTask). b.maxt) lent → lent ≡ tasks → maxts ≡ map maxt_in (map plain_built tasks)

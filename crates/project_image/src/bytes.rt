@@ -1,7 +1,7 @@
 //! The bytes of an image within their limit.
 ghost use Rattle.std.specs.Prelude.{◌≡◌, ◌⊎◌, Err};
 ghost use Rattle.image_plant.specs.Image.{IsImage};
-ghost use Rattle.project_image.specs.Gives.{ImageGives};
+ghost use Rattle.project_image.specs.Gives.{ImageWithin, ImageGives};
 ghost use Rattle.stages.specs.Stage.{given};
 
 use image::{Image, encode};
@@ -17,15 +17,23 @@ const LONGEST: usize = 4_194_304;
 pub fn image_bytes(alloc: Global, name: &str, image: &Image) -> Result<Vec<u8>, Refusal>
     ensures { ImageGives name.now image.now (given (λ bytes. bytes.items) result) ⊎ (given (λ bytes. bytes.items) result ≡ Err Refusal.Memory) }
 {
-    let Ok(name) = Text::from_slice(alloc, name.as_bytes()) else {
+    let Ok(blamed) = Text::from_slice(alloc, name.as_bytes()) else {
         return Err(Refusal::Memory);
     };
+    bytes_within(alloc, Some(blamed), image)
+}
+
+/// The bytes of an image. Refused as too long, with the file that is blamed or with none, exactly where they are
+/// more than 4,194,304, and where there is no memory.
+pub fn bytes_within(alloc: Global, blamed: Option<Text>, image: &Image) -> Result<Vec<u8>, Refusal>
+    ensures { ImageWithin blamed image.now (given (λ bytes. bytes.items) result) ⊎ (given (λ bytes. bytes.items) result ≡ Err Refusal.Memory) }
+{
     told(image);
     let Ok(bytes) = encode(alloc, image) else {
         return Err(Refusal::Memory);
     };
     if bytes.len() > LONGEST {
-        return Err(Refusal::TooLong(Some(name)));
+        return Err(Refusal::TooLong(blamed));
     }
     Ok(bytes)
 }

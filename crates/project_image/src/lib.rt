@@ -4,5 +4,5 @@
 pub mod bytes;
 pub mod made;
 
-pub use bytes::image_bytes;
+pub use bytes::{bytes_within, image_bytes};
 pub use made::image_of;

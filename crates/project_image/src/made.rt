@@ -1,6 +1,5 @@
 //! The image of a planned project.
 ghost use Rattle.std.specs.Prelude.{◌≡◌, All, IfOk, map};
-ghost use Rattle.graph.specs.JobGraph.{IsJobGraph};
 ghost use Rattle.image_plant.specs.Image.{IsImage};
 ghost use Rattle.planned_plant.specs.Plant.{plant_of, IsWholePlan};
 ghost use Rattle.project_plant.specs.Planned.{code_in};
@@ -8,7 +7,6 @@ ghost use Rattle.project_tables.specs.Planned.{plain_planned};
 ghost use Rattle.project_tasks.specs.Entries.{IsRead};
 ghost use Rattle.task_source.specs.Built.{plain_built};
 
-use graph::Graph;
 use image::Image;
 use image_sides::states_of;
 use mars_base::Memory;
@@ -39,20 +37,12 @@ pub fn image_of(alloc: Global, plan: ProjectPlan) -> Result<Image, Memory>
     let states = states_of(alloc, programs.as_slice())?;
     Ok(Image::new(Plant {
         net,
-        graph: whole(graph),
+        graph,
         tables,
         programs,
         maxts,
         states,
     }))
-}
-
-// A graph, whose own facts are told.
-fn whole(graph: Graph) -> Graph
-    ensures same { result ≡ graph }
-    ensures whole { IsJobGraph result }
-{
-    graph
 }
 
 // The codes of tasks, in their order.

@@ -1,4 +1,3 @@
-use Rattle.std.proofs.Common.{◌≡◌}
 use Rattle.image.proofs.Settled.{has_image, only, only_fault}
 use Rattle.image.proofs.decoding.decode.Goals as goal
 

@@ -1,4 +1,4 @@
-use Rattle.std.proofs.Common.{◌≡◌, ◌<◌, ◌∙◌, ap, length, arith}
+use Rattle.std.proofs.Common.{◌<◌, ◌∙◌, ap, length, arith}
 use Rattle.graph.specs.Net.{instances}
 use Rattle.graph.proofs.NetGraphs.{number_inside}
 use Rattle.image.proofs.entries.job_number.Goals as goal

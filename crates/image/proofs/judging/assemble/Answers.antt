@@ -1,6 +1,3 @@
-use Rattle.std.proofs.Common.{◌≡◌}
-use Rattle.plant.specs.declared.system.Plant.{Plant}
-use Rattle.word_code.specs.declared.code.Code.{Code}
 use Rattle.image_plant.proofs.Made.{made}
 use Rattle.image.proofs.Judged.{is_said, bad_table}
 use Rattle.image.proofs.judging.assemble.Goals as goal
