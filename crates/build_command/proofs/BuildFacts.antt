@@ -5,6 +5,7 @@ use Rattle.build_command.specs.Build.{report_text, IsText, reporting, stored, st
 use Rattle.build_command.specs.Stored.{HasStored}
 use Rattle.build_store.proofs.StoreFacts.{passes_storing}
 use Rattle.build_store.specs.Store.{storing}
+use Rattle.image_build.specs.Made.{HasMade}
 use Rattle.mars_base.specs.Causes.{Rose}
 use Rattle.planned_plant.specs.Plant.{plant_of}
 use Rattle.plant.specs.declared.system.Plant.{Plant}
@@ -75,24 +76,35 @@ neither : {A : Type 0} (k : ℕ) → (k ≡ 1) ⊎ (k ≡ 7) → (k ≡ 1 → �
 neither k (inl one) not_one not_seven = absurd (not_one one)
 neither k (inr seven) not_one not_seven = absurd (not_seven seven)
 
+-- what was stored was made
+was_made : {project image : List ℕ} {b n : Held} {r : Result (Unit {0}) Refusal} → (stored : HasStored project image b n r) → HasMade project b.files stored.bytes
+was_made stored = record { net = stored.net; built = stored.built; source = stored.source; short = stored.short; carry = stored.carry }
+
 module _ (project image : List ℕ) (b n : Held) (c d : Counts) (r : Result (Unit {0}) Refusal) where
   files_by : Ended project image b n c d r → (status_of_result r ≡ 0 → ⊥) → (status_of_result r ≡ 1 → ⊥) → (status_of_result r ≡ 7 → ⊥) → n.files ≡ b.files
   files_by (Early e is fine files out) zero one seven = files
-  files_by (Unwritten e is how out) zero one seven = neither (status_of e) (write_status image e how) (λ h. one (ap status_of_result is ∙ h)) (λ h. seven (ap status_of_result is ∙ h))
+  files_by (Unwritten e is how out bytes made) zero one seven = neither (status_of e) (write_status image e how) (λ h. one (ap status_of_result is ∙ h)) (λ h. seven (ap status_of_result is ∙ h))
   files_by (Unput is rose stored) zero one seven = absurd (seven (ap status_of_result is))
   files_by (Whole is stored) zero one seven = absurd (zero (ap status_of_result is))
 
   out_by : Ended project image b n c d r → (status_of_result r ≡ 0 → ⊥) → (status_of_result r ≡ 7 → ⊥) → n.out ≡ b.out
   out_by (Early e is fine files out) zero seven = out
-  out_by (Unwritten e is how out) zero seven = out
+  out_by (Unwritten e is how out bytes made) zero seven = out
   out_by (Unput is rose stored) zero seven = absurd (seven (ap status_of_result is))
   out_by (Whole is stored) zero seven = absurd (zero (ap status_of_result is))
 
   rose_by : Ended project image b n c d r → status_of_result r ≡ 7 → Rose c.output d.output ⊎ (n.out ≡ b.out)
   rose_by (Early e is fine files out) seven = inr out
-  rose_by (Unwritten e is how out) seven = inr out
+  rose_by (Unwritten e is how out bytes made) seven = inr out
   rose_by (Unput is rose stored) seven = inl rose
   rose_by (Whole is stored) seven = absurd (let zero = ap status_of_result is in omega (arith, zero, seven))
+
+  -- files that are touched were to hold the image
+  untouched_by : Ended project image b n c d r → (n.files ≡ b.files) ⊎ ((bytes : List ℕ) × HasMade project b.files bytes)
+  untouched_by (Early e is fine files out) = inl files
+  untouched_by (Unwritten e is how out bytes made) = inr (bytes, made)
+  untouched_by (Unput is rose stored) = inr (stored.bytes, was_made stored)
+  untouched_by (Whole is stored) = inr (stored.bytes, was_made stored)
 
   -- nothing was refused, or only a put: the statuses 0 and 7
   not_early : (e : Refusal) → r ≡ Err e → (status_of e ≡ 7 → ⊥) → IsStored r → HasStored project image b n r
@@ -108,7 +120,7 @@ module _ (project image : List ℕ) (b n : Held) (c d : Counts) (r : Result (Uni
 
   stored_by : Ended project image b n c d r → IsStored r → HasStored project image b n r
   stored_by (Early e is fine files out) so = not_early e is fine so
-  stored_by (Unwritten e is how out) so = not_unwritten e is how so
+  stored_by (Unwritten e is how out bytes made) so = not_unwritten e is how so
   stored_by (Unput is rose stored) so = stored
   stored_by (Whole is stored) so = stored
 
@@ -120,6 +132,7 @@ promises project budget image b n c d r input does blind =
     record {
       others_stay = within_does (KeepsOthers image) (building project budget image) (others_building project budget image) does;
       files_stay = files_by project image b n c d r end;
+      untouched = untouched_by project image b n c d r end;
       input_stays = input;
       exact = exact (building project budget image) (lasts_building project budget image) (without_input b) (without_input n) c d r blind;
       missing = λ missing. refused_does (refusal.ReadFault (Some project)) (building project budget image) (refused_turn b (refusal.ReadFault (Some project)) (planned project budget) (stored_plan image) (missing_planned project budget b missing)) does;

@@ -1,22 +1,19 @@
 -- How a build ends.
-use Rattle.std.proofs.Common.{◌≡◌, ◌⊎◌, ◌≤◌, inl, inr, ℕ, List, length, map, Option, None, Some, Result, Ok, Err, refl, sym, ap, ◌∙◌, subst, arith}
+use Rattle.std.proofs.Common.{◌≡◌, ◌⊎◌, inl, inr, ℕ, List, map, Option, None, Some, Result, Ok, Err, refl, sym, ap, ◌∙◌, subst, arith}
 use Rattle.std.specs.Io.KnownBytes.{append_known}
 use Rattle.build_command.proofs.Cuts.{planned_cut}
 use Rattle.build_command.specs.Build.{report_text, IsText, reporting, stored, stored_plan, building}
 use Rattle.build_command.specs.Stored.{HasStored}
-use Rattle.image_carries.proofs.Carrying.{image_carries}
-use Rattle.image_carries.specs.Carry.{BytesCarry}
-use Rattle.image_plant.specs.Fields.{image_bytes}
-use Rattle.image_plant.specs.Image.{IsImage}
+use Rattle.image_build.proofs.MadeFacts.{has_made}
+use Rattle.image_build.specs.Made.{HasMade}
 use Rattle.mars_base.specs.Causes.{Rose}
 use Rattle.mars_base.specs.declared.file.File.{File}
 use Rattle.mars_base.specs.Outside.{Wrote}
 use Rattle.planned_plant.proofs.WasPlanned.{was_planned}
-use Rattle.planned_valid.proofs.FoundTables.{plan_whole}
-use Rattle.planned_plant.specs.Plant.{plant_of, project_of}
+use Rattle.planned_plant.specs.Plant.{plant_of}
 use Rattle.plant.specs.declared.system.Plant.{Plant}
 use Rattle.project_image.proofs.Within.{refuses_image}
-use Rattle.project_image.specs.Gives.{ImageGives, Fits, Long}
+use Rattle.project_image.specs.Gives.{ImageGives}
 use Rattle.project_tables.proofs.PlannedFacts.{kept_planned, refuses_planned}
 use Rattle.project_tables.specs.Planned.{PlannedProject, planned}
 use Rattle.refusals.specs.Causes.{Counts, Caused}
@@ -40,14 +37,9 @@ NotWrites e = status_of e ≡ 7 → ⊥
 -- a build was refused before its write; or the write was refused; or a put of the report; or nothing was
 pub data Ended (project image : List ℕ) (b n : Held) (c d : Counts) (r : Result (Unit {0}) Refusal) : Type 0 where
   Early : (e : Refusal) → r ≡ Err e → NotWrites e → n.files ≡ b.files → n.out ≡ b.out → Ended project image b n c d r
-  Unwritten : (e : Refusal) → r ≡ Err e → (e ≡ refusal.Memory) ⊎ (e ≡ refusal.WriteFault (Some image)) → n.out ≡ b.out → Ended project image b n c d r
+  Unwritten : (e : Refusal) → r ≡ Err e → (e ≡ refusal.Memory) ⊎ (e ≡ refusal.WriteFault (Some image)) → n.out ≡ b.out → (bytes : List ℕ) → HasMade project b.files bytes → Ended project image b n c d r
   Unput : r ≡ Err (refusal.WriteFault None) → Rose c.output d.output → HasStored project image b n r → Ended project image b n c d r
   Whole : r ≡ Ok tt → HasStored project image b n r → Ended project image b n c d r
-
--- the bytes of an image are at most so many, and it is one
-fits_by : (image : List ℕ) (plant : Plant Code) (bytes : List ℕ) → ImageGives image plant (Ok bytes) → IsImage plant × (length bytes ≤ 4194304)
-fits_by image plant bytes (Fits ok is short) = (is, subst (λ (x : List ℕ). length x ≤ 4194304) (sym (ok_once (List ℕ) bytes (image_bytes plant) ok)) short)
-fits_by image plant bytes (Long refused far) = not_err bytes (refusal.TooLong (Some image)) (sym refused)
 
 -- what was written stands
 wrote_stands : (image bytes : List ℕ) (f g : Option (List File)) → Wrote f g image bytes → FileIs g image bytes
@@ -61,17 +53,15 @@ module _ (project : List ℕ) (budget : ℕ) (image : List ℕ) where
   has_stored : (b m n : Held) (p : PlannedProject) (bytes : List ℕ) (r : Result (Unit {0}) Refusal) → (planned project budget).meant b m (Ok p) → ImageGives image (plant_of p) (Ok bytes) → FileIs n.files image bytes
       → (r ≡ Ok tt → n.out ≡ append_known b.out (report_text (plant_of p) bytes)) → HasStored project image b n r
   has_stored b m n p bytes r planned gives stands report =
-      let fits = fits_by image (plant_of p) bytes gives in
-      let was = was_planned project budget b m p planned in
-      let whole = plan_whole project budget b m p planned in
+      let made = has_made project budget (Some image) b m p bytes planned gives in
       record {
-        net = p.net;
-        built = p.built;
-        source = was.source;
+        net = made.net;
+        built = made.built;
+        source = made.source;
         bytes = bytes;
-        short = fits.1;
+        short = made.short;
         stands = stands;
-        carry = image_carries image bytes p whole gives;
+        carry = made.carry;
         report = report;
       }
 
@@ -120,7 +110,7 @@ module _ (project : List ℕ) (budget : ℕ) (image : List ℕ) where
           Early e is (memory_not e cut.1) (ap (λ (h : Held). h.files) same) (ap (λ (h : Held). h.out) same)
       by (inr (e, is, inr (p, m, first, inr (bytes, k, judged, inr (text, k2, kept, inl cut))), caused)) =
           let same = after m k k2 p first judged.0 kept.0 in
-          Unwritten e is cut.3 (cut.2 ∙ ap (λ (h : Held). h.out) same)
+          Unwritten e is cut.3 (cut.2 ∙ ap (λ (h : Held). h.out) same) bytes (has_made project budget (Some image) b m p bytes first judged.1)
       by (inr (e, is, inr (p, m, first, inr (bytes, k, judged, inr (text, k2, kept, inr (u, k3, wrote, put)))), caused)) =
           let failed : r ≡ Err (refusal.WriteFault None) = is ∙ ap (fails (Unit {0})) put.2 in
           Unput failed (subst (Caused c d) put.2 caused)

@@ -1,19 +1,16 @@
 -- The calls that store an image do its stages.
-use Rattle.std.proofs.Common.{◌≡◌, ◌⊎◌, inl, inr, ℕ, List, Result, Ok, Err, refl, sym, ap, subst}
+use Rattle.std.proofs.Common.{◌≡◌, inl, inr, ℕ, List, Result, Ok, Err, refl, sym, ap, subst}
 use Rattle.build_command.specs.Build.{report_text, IsText, reporting, stored}
 use Rattle.build_store.specs.Store.{storing}
 use Rattle.plant.specs.declared.system.Plant.{Plant}
 use Rattle.project_image.proofs.Within.{Gives}
 use Rattle.project_image.specs.Gives.{ImageGives}
-use Rattle.planned_valid.proofs.FoundTables.{plan_whole}
-use Rattle.planned_plant.specs.Plant.{IsWholePlan}
-use Rattle.project_tables.specs.Planned.{PlannedProject, planned}
-use Rattle.refusals.specs.Causes.{Counts, Caused}
+use Rattle.refusals.specs.Causes.{Counts}
 use Rattle.refusals.specs.declared.refusal.Refusal.{Refusal}
 use Rattle.refusals.specs.declared.refusal.Refusal.TheVariants as refusal
 use Rattle.stages.specs.Stage.{Stage, Does, judging}
 use Rattle.stages.specs.World.{Held}
-use Rattle.stages.proofs.Turns.{passes, not_err, stopped, went, judged}
+use Rattle.stages.proofs.Turns.{passes, stopped, went, judged}
 use Rattle.word_code.specs.declared.code.Code.{Code}
 
 abbrev put_it : (image bytes : List ℕ) → List ℕ → Stage (Unit {0})
@@ -44,11 +41,3 @@ image_stored image plant bytes lent text {b} {n} {c} {d} {r} gives same is does 
 -- the same plant
 pub stored_same : (image : List ℕ) (one two : Plant Code) {b n : Held} {c d : Counts} {r : Result (Unit {0}) Refusal} → one ≡ two → Does (stored image one) b n c d r → Does (stored image two) b n c d r
 stored_same image one two {b} {n} {c} {d} {r} is does = subst (λ (p : Plant Code). Does (stored image p) b n c d r) is does
-
--- what was planned
-pub planned_whole : (project : List ℕ) (budget : ℕ) (p : PlannedProject) {b n : Held} {c d : Counts} → Does (planned project budget) b n c d (Ok p) → IsWholePlan p
-planned_whole project budget p {b} {n} {c} {d} does = by does.how
-  where
-    by : (planned project budget).meant b n (Ok p) ⊎ ((e : Refusal) × (passes PlannedProject p ≡ Err e) × (planned project budget).cut b n e × Caused c d e) → IsWholePlan p
-    by (inl meant) = plan_whole project budget b n p meant
-    by (inr cut) = not_err p cut.0 (sym cut.1)

@@ -2,6 +2,7 @@
 use Rattle.std.specs.Prelude.{◌≡◌, ◌⊎◌, ℕ, List, [], length, None, Some, Result, Ok, Err}
 use Rattle.build_command.specs.Stored.{HasStored}
 use Rattle.build_store.specs.Store.{storing}
+use Rattle.image_build.specs.Made.{HasMade}
 use Rattle.mars_base.specs.Causes.{Rose}
 use Rattle.mars_base.specs.Outside.{Refused}
 use Rattle.planned_plant.specs.Plant.{plant_of}
@@ -52,13 +53,15 @@ abbrev pub IsStored : Result (Unit {0}) Refusal → Type 0
 IsStored r = (r ≡ Ok tt) ⊎ (r ≡ Err (refusal.WriteFault None))
 
 -- What `build` promises whatever the objects tell. Every file but IMAGE stays, and where it's refused before the write all
--- files stay: with all statuses but 0, 1 and 7. The input isn't looked at. Where the files are told it's exactly what the
+-- files stay: with all statuses but 0, 1 and 7, and with these too unless bytes were made that carry the source project, and
+-- so were to be written. The input isn't looked at. Where the files are told it's exactly what the
 -- stages mean. A project file that a shelf that tells doesn't have is a read fault of its name, unless there was no memory.
 -- The output stays with all statuses but 0 and 7, and with 7 where no put failed. Where nothing was refused, or only a put of
 -- the report, bytes stand under IMAGE that carry the source project.
 pub record BuildPromises (project : List ℕ) (budget : ℕ) (image : List ℕ) (before now : Held) (counts counts' : Counts) (answer : Result (Unit {0}) Refusal) : Type 0 where
   pub others_stay : Refused before.files now.files image
   pub files_stay : (status_of_result answer ≡ 0 → ⊥) → (status_of_result answer ≡ 1 → ⊥) → (status_of_result answer ≡ 7 → ⊥) → now.files ≡ before.files
+  pub untouched : (now.files ≡ before.files) ⊎ ((bytes : List ℕ) × HasMade project before.files bytes)
   pub input_stays : (now.left ≡ before.left) × (counts'.input ≡ counts.input)
   pub exact : Exact (building project budget image) (without_input before) (without_input now) counts counts' answer
   pub missing : IsMissing before.files project → (answer ≡ Err (refusal.ReadFault (Some project))) ⊎ (answer ≡ Err refusal.Memory)

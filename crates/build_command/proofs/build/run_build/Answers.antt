@@ -1,7 +1,8 @@
 use Rattle.std.proofs.Common.{[], Some, refl}
 use Rattle.build_command.proofs.BuildFacts.{promises}
-use Rattle.build_command.proofs.Steps.{no_image, planned_whole, stored_same}
+use Rattle.build_command.proofs.Steps.{no_image, stored_same}
 use Rattle.build_command.specs.Build.{stored_plan}
+use Rattle.image_build.proofs.MadeFacts.{planned_whole}
 use Rattle.planned_plant.specs.Plant.{plant_of}
 use Rattle.project_tables.specs.Planned.{planned, plain_planned}
 use Rattle.stages.proofs.Turns.{stopped, went}
