@@ -38,8 +38,9 @@ fn keep<C: Cpu>(
     requires words { length words.old ≡ C.states_of program.now }
     requires halted { (state ins : List ℤ) × (m : ℕ) × C.runs cpu.now program.now state ins m
         × (turn_of (C.execution program.now m state ins) ≡ turn_.Halted) }
-    ensures { (state ins : List ℤ) (m : ℕ) → C.runs cpu.now program.now state ins m
+    ensures states { (state ins : List ℤ) (m : ℕ) → C.runs cpu.now program.now state ins m
         → states.new ≡ slice_set states.old task (state_in (C.execution program.now m state ins)) }
+    ensures sizes { (other : ℕ) → length (get_or states.new other []) ≡ length (get_or states.old other []) }
 {
     cpu.state(program, words);
     states.set(task, words);
@@ -74,6 +75,7 @@ pub fn end_job<C: Cpu>(
     ensures states { (ins : List ℤ) (m : ℕ) → C.runs cpu.now program.now (get_or states.old task []) ins m
         → turn ≡ turn_of (C.execution program.now m (get_or states.old task []) ins)
         → states.new ≡ slice_set states.old task (kept (get_or states.old task []) (result_in (C.execution program.now m (get_or states.old task []) ins))) }
+    ensures sizes { (other : ℕ) → length (get_or states.new other []) ≡ length (get_or states.old other []) }
 {
     match turn {
         Turn::Halted => {

@@ -1,5 +1,5 @@
 //! The fifth part of a tick: the job in hand ends.
-ghost use Rattle.std.specs.Prelude.{◌≡◌, ◌<◌, ◌≤◌, ℕ, suc, List, [], ℤ, Some, length, map, get_or, slice_get, slice_index, sum};
+ghost use Rattle.std.specs.Prelude.{◌≡◌, ◌≢◌, ◌<◌, ◌≤◌, ℕ, suc, List, [], ℤ, Some, length, map, get_or, slice_get, slice_index, sum};
 ghost use Rattle.processor.specs.Ends.{end_under};
 ghost use Rattle.processor.specs.Results.{turn_of};
 ghost use Rattle.graph.specs.Net.{outs_of};
@@ -66,6 +66,9 @@ pub fn close_job<C: Cpu>(
         → map (status_of (get_or states.old (job_at plant.now.graph job).task []) ins) book.old.jobs ≡ listed (length plant.now.graph.jobs) statuses
         → states.new ≡ listed (length plant.now.net.tasks) (λ task. state_after (plan_of plant.now.net plant.now.graph plant.now.tables words exec cost) tick statuses task (get_or states.old task [])
         ((plan_of plant.now.net plant.now.graph plant.now.tables words exec cost).instances task)) }
+    ensures book { IsBookOf plant.now.net plant.now.graph book.new }
+    ensures free { (k : ℕ) → known_in book.new k ≢ InHand }
+    ensures sizes { (other : ℕ) → length (get_or states.new other []) ≡ length (get_or states.old other []) }
 {
     let task = plant.graph.job(job).task;
     end_job(
