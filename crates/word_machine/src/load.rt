@@ -44,6 +44,10 @@ fn put_at(into: &mut [i32], at: usize, more: &[i32]) -> usize
     ensures end { result ≡ at + length more.now }
     ensures copied { take result into.new ≡ take at into.old ++ more.now }
 {
+    if let [word] = more {
+        into[at] = *word;
+        return at + 1;
+    }
     let end = at + more.len();
     into[at..end].copy_from_slice(more);
     end

@@ -61,7 +61,10 @@ impl Machine {
             if spent > limit {
                 return self.stand(pc, cycles, Turn::Short);
             }
-            match self.registers.act(pc, usize::from(slot.height), slot.instr) {
+            match self
+                .registers
+                .act(pc, usize::from(slot.height), &slot.instr)
+            {
                 Went::On(next) => pc = next,
                 Went::Halted => return self.stand(pc, spent, Turn::Halted),
                 Went::Broken => return self.stand(pc, spent, Turn::Broken),
@@ -159,9 +162,9 @@ impl Cpu for Machine {
 
 // The instruction at a number.
 #[inline(always)]
-fn slot_at(code: &Code, at: usize) -> Slot
+fn slot_at(code: &Code, at: usize) -> &Slot
     requires { at < length code.now.instrs }
-    ensures { slice_get code.now.instrs at ≡ Some result }
+    ensures { slice_get code.now.instrs at ≡ Some result.now }
 {
-    code.instrs.as_slice()[at]
+    &code.instrs.as_slice()[at]
 }

@@ -43,7 +43,11 @@ impl Places {
         requires { length self.old + length more.now ≤ 4096 }
         ensures { self.new ≡ self.old ++ more.now }
     {
-        let _ = self.words.extend_from_slice(more);
+        if let [word] = more {
+            let _ = self.words.push(*word);
+        } else {
+            let _ = self.words.extend_from_slice(more);
+        }
     }
 
     /// Adds places that hold 0.
@@ -51,7 +55,11 @@ impl Places {
         requires { length self.old + count ≤ 4096 }
         ensures { self.new ≡ self.old ++ replicate count (pos 0) }
     {
-        let _ = self.words.resize(self.words.len() + count, 0);
+        if count == 1 {
+            let _ = self.words.push(0);
+        } else {
+            let _ = self.words.resize(self.words.len() + count, 0);
+        }
     }
 
     /// How many places there are.

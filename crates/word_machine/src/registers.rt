@@ -36,16 +36,16 @@ pub enum Went {
 impl Registers {
     /// Does the instruction at a number, of this height, which lacks nothing.
     #[inline(always)]
-    pub fn act(&mut self, pc: usize, height: usize, instr: Instr) -> Went
-        requires { IsAble (action_of instr) pc height self.old }
-        ensures { Acts (action_of instr) pc height self.old result self.new }
+    pub fn act(&mut self, pc: usize, height: usize, instr: &Instr) -> Went
+        requires { IsAble (action_of instr.now) pc height self.old }
+        ensures { Acts (action_of instr.now) pc height self.old result self.new }
     {
         match instr {
-            Instr::Push(word) => self.push(pc, height, word),
-            Instr::Load(place) => self.load(pc, height, place),
-            Instr::Store(place) => self.store(pc, height, place),
-            Instr::LoadX { place, width } => self.load_at(pc, height, place, width),
-            Instr::StoreX { place, width } => self.store_at(pc, height, place, width),
+            Instr::Push(word) => self.push(pc, height, *word),
+            Instr::Load(place) => self.load(pc, height, *place),
+            Instr::Store(place) => self.store(pc, height, *place),
+            Instr::LoadX { place, width } => self.load_at(pc, height, *place, *width),
+            Instr::StoreX { place, width } => self.store_at(pc, height, *place, *width),
             Instr::Add => self.combine(pc, height, BinOp::Add),
             Instr::Sub => self.combine(pc, height, BinOp::Sub),
             Instr::Mul => self.combine(pc, height, BinOp::Mul),
@@ -62,11 +62,11 @@ impl Registers {
             Instr::Neg => self.change(pc, height, UnOp::Neg),
             Instr::Not => self.change(pc, height, UnOp::Not),
             Instr::Inv => self.change(pc, height, UnOp::Inv),
-            Instr::Jmp(target) => Went::On(usize::from(target)),
+            Instr::Jmp(target) => Went::On(usize::from(*target)),
             Instr::Jz(target) => self.jump_if_zero(pc, height, target),
-            Instr::CZero(counter) => self.clear(pc, height, counter),
-            Instr::CInc { counter, bound } => self.count(pc, height, counter, bound),
-            Instr::Call(target) => self.call(pc, height, target),
+            Instr::CZero(counter) => self.clear(pc, height, *counter),
+            Instr::CInc { counter, bound } => self.count(pc, height, *counter, *bound),
+            Instr::Call(target) => self.call(pc, height, *target),
             Instr::Ret => self.go_back(pc, height),
             Instr::Halt => Went::Halted,
         }
@@ -151,13 +151,14 @@ impl Registers {
         Went::On(pc + 1)
     }
 
+    // The target is read only where it is gone to.
     #[inline(always)]
-    fn jump_if_zero(&mut self, pc: usize, height: usize, target: u16) -> Went
-        requires { IsAble (JumpsIfZero target) pc height self.old }
-        ensures { Acts (JumpsIfZero target) pc height self.old result self.new }
+    fn jump_if_zero(&mut self, pc: usize, height: usize, target: &u16) -> Went
+        requires { IsAble (JumpsIfZero target.now) pc height self.old }
+        ensures { Acts (JumpsIfZero target.now) pc height self.old result self.new }
     {
         if self.stack.top(height) == 0 {
-            Went::On(usize::from(target))
+            Went::On(usize::from(*target))
         } else {
             Went::On(pc + 1)
         }
