@@ -1,9 +1,11 @@
 -- The first word of a line, and what it says of the line's words.
-use Rattle.std.proofs.Common.{◌≡◌, ◌≢◌, inl, inr, ℕ, ◌<◌, ◌&&◌, Bool, true, false, cond, List, [], ◌∷◌, length, get_or, Option, Some, None, ℤ, refl, sym, ap, ◌∙◌, arith, eqb, eq-eqb}
+use mir.Val.{bool_byte}
+use Rattle.std.proofs.Common.{◌≡◌, ◌≢◌, inl, inr, ℕ, ◌<◌, ◌+◌, ◌&&◌, Bool, true, false, cond, List, [], ◌∷◌, length, drop, get_or, subst, Option, Some, None, ℤ, refl, sym, ap, ◌∙◌, arith, eqb, eq-eqb}
 use Rattle.std.specs.List.{onto_first}
 use Rattle.std.proofs.lemmas.Bool.{false_from_ne_true, eqb-true}
 use Rattle.lines.specs.Grammar.{◌>>=◌, is_blank, parts, word_of, unsigned_word, negative_word, words_in, onto_words}
-use Rattle.lines.specs.First.{at_feed, line_text, first_part, after_part, BeginsWord, ReadsWord}
+use Rattle.lines.specs.First.{at_feed, line_text, first_part, after_part, reading_of, BeginsWord, ReadsWord}
+use Rattle.lines.proofs.FirstLine.{first_behind, line_more}
 
 one_byte : (t : Bool) (b : ℕ) → cond t ([] ∷ []) ((b ∷ []) ∷ []) ≡ cond t [] (b ∷ []) ∷ parts (cond t [] [])
 one_byte true b = refl
@@ -65,3 +67,25 @@ pub read_unsigned : (text : List ℕ) (behind : ℕ → List ℕ) (r : Option (�
     → BeginsWord unsigned_word (line_text text) behind r → ReadsWord (line_text text) behind r
 read_unsigned [] behind r other h says = read_none behind r says
 read_unsigned (b ∷ bs) behind r other h says = read_bits (eqb b 10) (eqb b 13 && at_feed bs) b (line_text bs) behind r (other (omega arith)) (h (omega arith)) says
+
+-- the place behind the minus, or where there is none the same place
+abbrev pub behind_minus : Bool → ℕ → ℕ
+behind_minus true from = from + 1
+behind_minus false from = from
+
+pub place_behind : (negative : Bool) (from more : ℕ) → more ≡ bool_byte negative → from + more ≡ behind_minus negative from
+place_behind true from more e = omega (arith, e)
+place_behind false from more e = omega (arith, e)
+
+-- a line's first word, by the digits behind its minus or with none
+pub read_word : (text : List ℕ) (from start : ℕ) (negative : Bool) (behind : ℕ → List ℕ) (r : Option (ℤ × ℕ)) → start ≡ behind_minus negative from
+    → (negative ≡ true → (from < length text) × (get_or text from 0 ≡ 45)) → (negative ≡ false → from < length text → get_or text from 0 ≢ 45)
+    → (from < length text → is_blank (get_or text from 0) ≡ false) → BeginsWord (reading_of negative) (line_text (drop start text)) behind r → ReadsWord (line_text (drop from text)) behind r
+read_word text from start true behind r e minus other blank says =
+    let is = minus refl in
+    read_negative (line_text (drop from text)) (line_text (drop (from + 1) text)) (get_or text from 0) behind r
+    (line_more text from is.0 (λ e. omega (arith, e, is.1)) (λ e. omega (arith, e, is.1))) is.1
+    (subst (λ (n : ℕ). BeginsWord negative_word (line_text (drop n text)) behind r) e says)
+read_word text from start false behind r e minus other blank says =
+    read_unsigned (drop from text) behind r (first_behind (λ (b : ℕ). b ≢ 45) text from (other refl)) (first_behind (λ (b : ℕ). is_blank b ≡ false) text from blank)
+    (subst (λ (n : ℕ). BeginsWord unsigned_word (line_text (drop n text)) behind r) e says)

@@ -1,7 +1,7 @@
 -- The first line of a text, and its first word, for the bodies that read it in one pass. No public clause cites this.
 use Rattle.std.specs.Prelude.{◌≡◌, ℕ, ◌+◌, ◌-◌, ◌<◌, ◌≤◌, ◌==◌, ◌&&◌, Bool, true, false, if◌then◌else◌, List, [], ◌∷◌, length, take, drop, Option, Some, None, MatchOption, ℤ, ◌⊎◌}
 use Rattle.lines.specs.Found.{NoFeedBelow, IsFirstFeed}
-use Rattle.lines.specs.Grammar.{is_blank, parts, words_in, onto_words, words_of}
+use Rattle.lines.specs.Grammar.{◌>>=◌, is_blank, parts, word_below, minus_word, number_of, words_in, onto_words, words_of}
 use Rattle.lines.specs.Lines.{without_return}
 
 -- whether a line feed begins a text
@@ -23,6 +23,14 @@ first_part (b ∷ bs) = if is_blank b then [] else b ∷ first_part bs
 abbrev pub after_part : List ℕ → List ℕ
 after_part [] = []
 after_part (b ∷ bs) = if is_blank b then bs else after_part bs
+
+-- the word of a number behind a minus or with none, and of such digits
+abbrev pub in_range : Bool → ℕ → Option ℤ
+in_range true = minus_word
+in_range false = word_below
+
+abbrev pub reading_of : Bool → List ℕ → Option ℤ
+reading_of negative ds = number_of ds >>= in_range negative
 
 -- the first part is what a reading gives, and behind the place in the answer stand the words behind it; or it is none
 abbrev pub BeginsWord : {W : Type 0} → (List ℕ → Option W) → List ℕ → (ℕ → List ℕ) → Option (W × ℕ) → Type 0

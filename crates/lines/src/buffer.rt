@@ -1,5 +1,5 @@
 //! Output text, gathered until it is sent.
-ghost use Rattle.std.specs.Prelude.{◌≡◌, ◌+◌, ◌<◌, ◌≤◌, ◌++◌, ◌∷◌, [], IfOk, IsTrue, ◌↔◌, length, decimal};
+ghost use Rattle.std.specs.Prelude.{◌≡◌, ◌+◌, ◌<◌, ◌≤◌, ◌++◌, ◌∷◌, [], IfOk, IsTrue, ◌↔◌, length, decimal, if◌then◌else◌};
 ghost use Rattle.lines.specs.Gathered.{Writes};
 ghost use Rattle.std.specs.Fmt.{signed_decimal};
 ghost use Rattle.mars_base.specs.Causes.{HasCause};
@@ -81,10 +81,17 @@ impl LineBuf {
         ensures text { self.new ≡ self.old ++ signed_decimal word }
         ensures room { length self.new ≤ length self.old + 11 }
     {
-        if word < 0 {
-            self.byte(b'-');
-        }
+        self.minus(word < 0);
         self.digits(word.unsigned_abs());
+    }
+
+    // Appends a minus where it is wanted; it is written in any case, without a branch, and counts where it is.
+    fn minus(&mut self, wanted: bool)
+        requires { length self.old < 65536 }
+        ensures { self.new ≡ self.old ++ (if wanted then 45 ∷ [] else []) }
+    {
+        self.bytes[self.used] = b'-';
+        self.used += usize::from(wanted);
     }
 
     // Appends the digits of a number; they fit.
@@ -151,7 +158,7 @@ impl LineBuf {
     }
 }
 
-// How many decimal digits a number has.
+// How many decimal digits a number has: by sums of comparisons, since which it is can't be foreseen.
 fn digits_of(number: u32) -> usize
     ensures count { result ≡ length (decimal number) }
     ensures most { result ≤ 10 }
@@ -170,19 +177,10 @@ fn digits_of_few(number: u32) -> usize
     ensures count { result ≡ length (decimal number) }
     ensures most { result ≤ 10 }
 {
-    if number < 10 {
-        return 1;
-    }
-    if number < 100 {
-        return 2;
-    }
-    if number < 1_000 {
-        return 3;
-    }
-    if number < 10_000 {
-        return 4;
-    }
-    5
+    1 + usize::from(number >= 10)
+        + usize::from(number >= 100)
+        + usize::from(number >= 1_000)
+        + usize::from(number >= 10_000)
 }
 
 // The same, from six digits on.
@@ -192,17 +190,8 @@ fn digits_of_many(number: u32) -> usize
     ensures count { result ≡ length (decimal number) }
     ensures most { result ≤ 10 }
 {
-    if number >= 1_000_000_000 {
-        return 10;
-    }
-    if number >= 100_000_000 {
-        return 9;
-    }
-    if number >= 10_000_000 {
-        return 8;
-    }
-    if number >= 1_000_000 {
-        return 7;
-    }
-    6
+    6 + usize::from(number >= 1_000_000)
+        + usize::from(number >= 10_000_000)
+        + usize::from(number >= 100_000_000)
+        + usize::from(number >= 1_000_000_000)
 }

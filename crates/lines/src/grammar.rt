@@ -1,8 +1,8 @@
 //! The words of a line.
-ghost use Rattle.std.specs.Prelude.{◌≡◌, ◌<◌, ◌≤◌, ◌⊎◌, [], length, drop, slice_index, Some, None, MatchOption, IfSome, IfNone, true, false};
+ghost use Rattle.std.specs.Prelude.{◌≡◌, ◌≢◌, ◌<◌, ◌≤◌, ◌⊎◌, [], length, drop, slice_index, Some, None, MatchOption, IfSome, IfNone, true, false};
 ghost use Rattle.lines.specs.Found.{NoFeedBelow};
-ghost use Rattle.lines.specs.Grammar.{is_blank, parts, words_in, onto_words, unsigned_word, negative_word, number_of, words_of};
-ghost use Rattle.lines.specs.First.{line_text, first_part, BeginsWord, EndsLine, ReadsWord};
+ghost use Rattle.lines.specs.Grammar.{is_blank, parts, words_in, onto_words, number_of, words_of};
+ghost use Rattle.lines.specs.First.{line_text, first_part, in_range, reading_of, BeginsWord, EndsLine, ReadsWord};
 
 /// The words of the first line of a text, put into `into`: how many bytes the line has with its end, or
 /// None exactly where it hasn't as many words as `into`. Where it is None, what `into` holds is open. The
@@ -50,41 +50,40 @@ fn word_at(text: &[u8], from: usize) -> Option<(i32, usize)>
     ensures within { IfSome result (λ r. r.1 ≤ length text.now) }
     ensures line { IfSome result (λ r. NoFeedBelow r.1 text.now) }
 {
-    if from < text.len() && text[from] == b'-' {
-        negative_word(text, from + 1)
-    } else {
-        unsigned_word(text, from)
-    }
+    let negative = begins_minus(text, from);
+    digits_at(text, from + usize::from(negative), negative)
 }
 
-// The word of the digits at a place, behind a minus.
-fn negative_word(text: &[u8], from: usize) -> Option<(i32, usize)>
+// Whether a minus stands at a place.
+fn begins_minus(text: &[u8], from: usize) -> bool
+    ensures minus { result ≡ true → (from < length text.now) × (slice_index text.now from ≡ 45) }
+    ensures other { result ≡ false → from < length text.now → slice_index text.now from ≢ 45 }
+{
+    from < text.len() && text[from] == b'-'
+}
+
+// The word of the digits at a place, behind a minus or with none.
+fn digits_at(text: &[u8], from: usize, negative: bool) -> Option<(i32, usize)>
     requires within { from ≤ length text.now }
     requires line { NoFeedBelow from text.now }
-    ensures word { BeginsWord negative_word (line_text (drop from text.now)) (λ next. line_text (drop next text.now)) result }
+    ensures word { BeginsWord (reading_of negative) (line_text (drop from text.now)) (λ next. line_text (drop next text.now)) result }
     ensures within { IfSome result (λ r. r.1 ≤ length text.now) }
     ensures line { IfSome result (λ r. NoFeedBelow r.1 text.now) }
 {
     let (n, next) = number(text, from)?;
-    if n > 1 << 31 {
-        return None;
-    }
-    Some(((-(n as i64)) as i32, next))
+    let word = word_of(n, negative)?;
+    Some((word, next))
 }
 
-// The word of the digits at a place.
-fn unsigned_word(text: &[u8], from: usize) -> Option<(i32, usize)>
-    requires within { from ≤ length text.now }
-    requires line { NoFeedBelow from text.now }
-    ensures word { BeginsWord unsigned_word (line_text (drop from text.now)) (λ next. line_text (drop next text.now)) result }
-    ensures within { IfSome result (λ r. r.1 ≤ length text.now) }
-    ensures line { IfSome result (λ r. NoFeedBelow r.1 text.now) }
+// The word of a number behind a minus or with none, where it is in a word's range.
+fn word_of(n: u64, negative: bool) -> Option<i32>
+    ensures { result ≡ in_range negative n }
 {
-    let (n, next) = number(text, from)?;
-    if n >= 1 << 31 {
+    if n > (1 << 31) - u64::from(!negative) {
         return None;
     }
-    Some((n as i32, next))
+    let n = n as i64;
+    Some(if negative { -n } else { n } as i32)
 }
 
 // The number of 1 to 10 digits at a place, and where they end; None where fewer or more stand there, or
