@@ -46,6 +46,8 @@ impl Machine {
 
     // Does instructions until the next one's cost would pass the limit or the execution is over, and tells how
     // it stands then. The number of the instruction and the cycles are kept apart from the machine meanwhile.
+    // The loop stands in a function of its own, so that what each instruction needs has a register.
+    #[inline(never)]
     fn run(&mut self, code: &Code, limit: u32) -> Turn
         requires limit { limit < 2 ^ 31 }
         requires verified { IsVerified code.now }
