@@ -1,5 +1,5 @@
 -- Where a machine stands after a load, an instruction and an advance.
-use Rattle.std.proofs.Common.{◌≡◌, ◌≢◌, ℕ, ◌+◌, ◌-◌, ◌<◌, ◌≤◌, max, List, [], length, ℤ, Option, Some, None, refl, sym, ap, ◌∙◌, subst, arith, inl, inr}
+use Rattle.std.proofs.Common.{◌≡◌, ℕ, ◌+◌, ◌-◌, ◌<◌, ◌≤◌, max, List, [], length, ℤ, Option, Some, refl, sym, ap, ◌∙◌, subst, arith, inl, inr}
 use Rattle.std.specs.Prelude.{slice_get, replicate}
 use Rattle.std.specs.Option.{option_map}
 use Rattle.processor.specs.Ends.{Halted, Broken, Goes, Ends, Over, Cut}
@@ -10,16 +10,16 @@ use Rattle.word_code.specs.Cells.{start_of, words_at_start, width_of, is_in, is_
 use Rattle.word_code.specs.Cost.{cost_of}
 use Rattle.word_code.specs.Course.{IsOnCourse}
 use Rattle.word_code.specs.Execution.{exec_from}
-use Rattle.word_code.specs.Ready.{act_on, IsReady}
+use Rattle.word_code.specs.Ready.{act_on}
 use Rattle.word_code.specs.State.{State, at}
 use Rattle.word_code.specs.Step.{cost_at, cost_or, step}
-use Rattle.word_code.specs.Typing.{IsVerified, height_at, height_after, pops_of, pushes_of}
+use Rattle.word_code.specs.Typing.{IsVerified, pops_of, pushes_of}
 use Rattle.word_code.specs.declared.code.Code.{Code}
 use Rattle.word_code.specs.declared.code.Slot.{Slot}
 use Rattle.word_code.proofs.Course.{course_start, course_step, instr_here, ready, step_is}
 use Rattle.word_code.proofs.Exec.{step_costs, exec_short, exec_goes, exec_ends}
 use Rattle.word_machine.specs.Acts.{state_of, IsAble}
-use Rattle.word_machine.specs.Machine.{or_none, height_of, standing_at, standing, IsSame, StopsShort, StopsOver, Stopped, IsRunning, IsFinished, Runs}
+use Rattle.word_machine.specs.Machine.{or_none, height_of, standing_at, standing, IsSame, Stopped, Runs}
 use Rattle.word_machine.specs.Stack.{operands}
 use Rattle.word_machine.specs.declared.machine.Machine.{Machine}
 use Rattle.word_machine.specs.declared.registers.Registers.{Registers}

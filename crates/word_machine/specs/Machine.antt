@@ -1,5 +1,5 @@
 -- Where a machine stands in an execution. This project's own.
-use Rattle.std.specs.Prelude.{◌≡◌, ◌≢◌, ◌⊎◌, ℕ, ◌<◌, ◌≤◌, ℤ, List, length, Option, Some, None}
+use Rattle.std.specs.Prelude.{◌≡◌, ◌≢◌, ◌⊎◌, ℕ, ◌≤◌, ℤ, List, length, Option, Some, None}
 use Rattle.processor.specs.Ends.{Halted, Broken, Limited, Over, Cut}
 use Rattle.processor.specs.declared.cpu.Turn.{Turn}
 use Rattle.processor.specs.declared.cpu.Turn.TheVariants as turn

@@ -55,10 +55,11 @@ impl Machine {
         requires below { self.old.cycles ≤ limit }
         ensures { Stopped code.now limit self.old self.new result }
     {
+        let slots = code.instrs.as_slice();
         let mut pc = self.pc;
         let mut cycles = self.cycles;
         loop {
-            let slot = slot_at(code, pc);
+            let slot = slot_at(slots, pc);
             let spent = cycles + cost(&slot.instr);
             if spent > limit {
                 return self.stand(pc, cycles, Turn::Short);
@@ -164,9 +165,9 @@ impl Cpu for Machine {
 
 // The instruction at a number.
 #[inline(always)]
-fn slot_at(code: &Code, at: usize) -> &Slot
-    requires { at < length code.now.instrs }
-    ensures { slice_get code.now.instrs at ≡ Some result.now }
+fn slot_at(slots: &[Slot], at: usize) -> &Slot
+    requires { at < length slots.now }
+    ensures { slice_get slots.now at ≡ Some result.now }
 {
-    &code.instrs.as_slice()[at]
+    &slots[at]
 }

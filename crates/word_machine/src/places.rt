@@ -127,7 +127,11 @@ impl Counters {
         ensures { self.new ≡ replicate count 0 }
     {
         self.counts.clear();
-        let _ = self.counts.resize(count, 0);
+        if count == 1 {
+            let _ = self.counts.push(0);
+        } else {
+            let _ = self.counts.resize(count, 0);
+        }
     }
 
     /// The count of a counter.

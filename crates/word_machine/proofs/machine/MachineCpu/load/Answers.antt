@@ -1,4 +1,4 @@
-use Rattle.std.proofs.Common.{◌≡◌, refl, ap, ◌∙◌, ℕ, replicate}
+use Rattle.std.proofs.Common.{◌≡◌, refl, ap, ◌∙◌, replicate}
 use Rattle.word_code.specs.Cells.{words_at_start}
 use Rattle.word_code.specs.declared.code.Code.{Code}
 use Rattle.word_machine.proofs.Turns.{loaded}
