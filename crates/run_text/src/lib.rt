@@ -4,3 +4,6 @@
 pub mod line;
 
 pub use line::{write_broken, write_lost, write_out, write_task};
+
+#[cfg(test)]
+mod tests;
