@@ -5,6 +5,7 @@ pub mod asked;
 pub mod top;
 
 pub use build_command::run_build;
+pub use image_build::build;
 pub use plan_command::run_plan;
 pub use refusals::{Fault, ImageBad, Place, ProjectKind, Refusal, Section, say, status};
 pub use show_command::run_show;
