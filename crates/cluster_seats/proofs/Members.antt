@@ -45,7 +45,7 @@ bus_is units bus seats h e = λ i u x k. by u x k (cases_lt u units) i
         ap (λ (m : Member). slot_at m.slots k) (get_or_past (members_on bus seats) (replica_number u x) no_member (beyond u x high))
         ∙ ap (λ b. slot_at (cond b (slots_on bus u x) []) k) (sym (le-ltb u bus.layout.units (omega (arith, high, e))))
 
-unit_within : (units : ℕ) (seats : List Seated) → AreSeated units seats → (n : ℕ) → n < length seats → (seat_at seats n).unit < units
+pub unit_within : (units : ℕ) (seats : List Seated) → AreSeated units seats → (n : ℕ) → n < length seats → (seat_at seats n).unit < units
 unit_within units seats h n low = omega (arith, h.number n low, h.count, low)
 
 -- one replica has an event that leaves the slots of all others

@@ -1,5 +1,5 @@
 //! What a cluster asks of each of its replicas.
-ghost use Rattle.std.specs.Prelude.{◌≡◌, ◌<◌, ℕ, List, [], ℤ, length, map, not, option_copied};
+ghost use Rattle.std.specs.Prelude.{◌≡◌, ◌<◌, ℕ, List, [], ℤ, length, map, not, option_copied, slice_index};
 ghost use Rattle.mars_base.specs.declared.shape.Side.{Side};
 ghost use Rattle.bus.specs.Numbers.{slot_of};
 ghost use Rattle.bus.specs.SlotState.{IsSending, cut};
@@ -112,4 +112,8 @@ pub trait Seat: Drop {
 
     /// It keeps the premise of the agreement with the graph.
     ghost is_set: { (plant : Plant Self.Program) → is_fit plant → IsSet plant.net plant.graph plant.tables plant.states (exec plant) };
+
+    /// It has the state words of each task of its unit.
+    ghost sized: { (plant : Plant Self.Program) (replica : Self) → is_fit plant → is_alive plant replica → (task : ℕ) → task < length plant.net.tasks
+        → (plan_for exec cost plant).home task ≡ (seat replica).unit → length (state_in (seat replica).held task) ≡ slice_index plant.states task };
 }

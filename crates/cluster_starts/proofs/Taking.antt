@@ -95,8 +95,8 @@ module _ {P : Type 0} (plant : Plant P) (seats : List Seated) where
         let f : ℕ → List ℤ = λ k. left_by (member_of s.members (p.home k) A) (member_of s.members (p.home k) B) k (get_or starts k []) in
         ext_get_or [] now (left_states p s) (t.count_is ∙ h.count ∙ sym (length_listed p.tasks f))
         (λ k low.
-            let b : k < length plant.net.tasks = omega (arith, low, t.count_is, h.count) in
-            t.done k b (omega (arith, b, h.count)) ∙ by_home k b ∙ sym (listed_at p.tasks f k [] b))
+        let b : k < length plant.net.tasks = omega (arith, low, t.count_is, h.count) in
+        t.done k b (omega (arith, b, h.count)) ∙ by_home k b ∙ sym (listed_at p.tasks f k [] b))
       where
         by_home : (k : ℕ) → k < length plant.net.tasks → left_at k (get_or starts k [])
             ≡ left_by (member_of (members_on bus seats) ((plan_for exec cost plant).home k) A) (member_of (members_on bus seats) ((plan_for exec cost plant).home k) B) k (get_or starts k [])

@@ -13,26 +13,46 @@ seen_at seat xs n s low is = ap seat is ∙ sym (get_or-map seat xs n s no_seat 
 pub offset_bounds-seats-number : goal.offset_bounds-seats-number
 offset_bounds-seats-number g c =
     let task : c.tasks.task < length c.args.plant.now.net.tasks = omega arith in
-    omega (arith, c.home_of.ensures, c.from-number.ensures, length-map c.args.seats.now g.S.Seat.seat,
-    a_low c.args.plant.now (map g.S.Seat.seat c.args.seats.now) c.requires.net c.requires.valid c.requires.seats c.args.starts.now c.requires.room c.tasks.task task)
+    omega (
+      arith,
+      c.home_of.ensures,
+      c.from-number.ensures,
+      length-map c.args.seats.now g.S.Seat.seat,
+      a_low c.args.plant.now (map g.S.Seat.seat c.args.seats.now) c.requires.net c.requires.valid c.requires.seats c.args.starts.now c.requires.room c.tasks.task task,
+    )
 
 pub bounds-seats-number : goal.bounds-seats-number
 bounds-seats-number g c =
     let task : c.tasks.task < length c.args.plant.now.net.tasks = omega arith in
-    omega (arith, c.home_of.ensures, c.from-number.ensures, length-map c.args.seats.now g.S.Seat.seat,
-    a_low c.args.plant.now (map g.S.Seat.seat c.args.seats.now) c.requires.net c.requires.valid c.requires.seats c.args.starts.now c.requires.room c.tasks.task task)
+    omega (
+      arith,
+      c.home_of.ensures,
+      c.from-number.ensures,
+      length-map c.args.seats.now g.S.Seat.seat,
+      a_low c.args.plant.now (map g.S.Seat.seat c.args.seats.now) c.requires.net c.requires.valid c.requires.seats c.args.starts.now c.requires.room c.tasks.task task,
+    )
 
 pub offset_bounds-seats-number-in-tasks : goal.offset_bounds-seats-number-in-tasks
 offset_bounds-seats-number-in-tasks g c =
     let task : c.tasks.task < length c.args.plant.now.net.tasks = omega arith in
-    omega (arith, c.home_of.ensures, c.from-number.ensures, length-map c.args.seats.now g.S.Seat.seat,
-    b_low c.args.plant.now (map g.S.Seat.seat c.args.seats.now) c.requires.net c.requires.valid c.requires.seats c.args.starts.now c.requires.room c.tasks.task task)
+    omega (
+      arith,
+      c.home_of.ensures,
+      c.from-number.ensures,
+      length-map c.args.seats.now g.S.Seat.seat,
+      b_low c.args.plant.now (map g.S.Seat.seat c.args.seats.now) c.requires.net c.requires.valid c.requires.seats c.args.starts.now c.requires.room c.tasks.task task,
+    )
 
 pub bounds-seats-number-in-tasks : goal.bounds-seats-number-in-tasks
 bounds-seats-number-in-tasks g c =
     let task : c.tasks.task < length c.args.plant.now.net.tasks = omega arith in
-    omega (arith, c.home_of.ensures, c.from-number.ensures, length-map c.args.seats.now g.S.Seat.seat,
-    b_low c.args.plant.now (map g.S.Seat.seat c.args.seats.now) c.requires.net c.requires.valid c.requires.seats c.args.starts.now c.requires.room c.tasks.task task)
+    omega (
+      arith,
+      c.home_of.ensures,
+      c.from-number.ensures,
+      length-map c.args.seats.now g.S.Seat.seat,
+      b_low c.args.plant.now (map g.S.Seat.seat c.args.seats.now) c.requires.net c.requires.valid c.requires.seats c.args.starts.now c.requires.room c.tasks.task task,
+    )
 
 pub take_one-requires-clause-a_states : goal.take_one-requires-clause-a_states
 take_one-requires-clause-a_states g c =

@@ -1,0 +1,4 @@
+pub mod Acting
+pub mod Noted
+pub mod Setting
+pub mod Turned
