@@ -1,6 +1,6 @@
 -- All that is kept beside a list, with one decision more and with one less.
 use Rattle.std.proofs.Common.{◌≡◌, ℕ, zero, suc, ◌+◌, ◌-◌, ◌<◌, ◌≤◌, ◌⊎◌, inl, inr, Bool, true, false, cond, not, ◌||◌, leb, List, [], ◌∷◌, ◌++◌, length, get_or, Option, Some, None, refl, sym, ap, ◌∙◌, subst, arith, length-append}
-use Rattle.std.specs.Prelude.{slice_get, slice_set, slice_index_or, count_by, nat_lt, vec_capacity, replicate}
+use Rattle.std.specs.Prelude.{slice_get, slice_set, slice_index_or, count_by, nat_lt, vec_capacity, replicate, is_some, min}
 use Rattle.std.proofs.lemmas.List.{get_or-replicate, length-replicate}
 use Rattle.std.proofs.lemmas.List.Sums.{sum_by-cons}
 use Rattle.std.proofs.lemmas.Option.{slice_get-get_or, get_or_from_slice_get}
@@ -20,8 +20,9 @@ use Rattle.reached.proofs.Late.{HasNoStart, hopeless_of, pruned_of}
 use Rattle.reached.proofs.Prunes.{few_decisions}
 use Rattle.unit_ticks.specs.Busy.{Busy}
 use Rattle.placement.specs.declared.state.State.{State}
-use Rattle.placement.specs.Feeding.{IsNext, first_some, without, one_if}
-use Rattle.placement.specs.Held.{place_of_job, place_of_task, is_past, is_hopeless, HasPlaces, HasWords, HasTicks, Holds}
+use Rattle.placement.specs.Feeding.{IsNext, flat, first_some, without, one_if}
+use Rattle.placement.proofs.Fronts.{front_more, front_less}
+use Rattle.placement.specs.Held.{place_of_job, place_of_task, is_past, is_hopeless, HasPlaces, HasWords, HasTicks, IsFront, Holds}
 use Rattle.placement.specs.Loads.{IsInside, AreInside, IsLoaded}
 use Rattle.placement.proofs.Finding.{places_more, job_more, job_new, job_old, task_more, task_new, task_old, count_append}
 
@@ -216,7 +217,7 @@ test_same zero = refl
 test_same (suc n) = grind arith
 
 -- what is kept, part by part
-record Kept (pr : Problem) (l : List Decision) (room_for : ℕ) (places homes : List (Option ℕ)) (f : Load) (ticks : Busy) (order : List ℕ) (late : ℕ) (hopeless : Bool) : Type 0 where
+record Kept (pr : Problem) (l : List Decision) (room_for : ℕ) (places homes : List (Option ℕ)) (f : Load) (ticks : Busy) (order : List ℕ) (ranks : List ℕ) (first late : ℕ) (hopeless : Bool) : Type 0 where
   is_problem : IsProblem pr
   reached : IsReached pr l
   room : length pr.works ≤ room_for
@@ -224,15 +225,16 @@ record Kept (pr : Problem) (l : List Decision) (room_for : ℕ) (places homes : 
   tasks : HasPlaces homes 64 (place_of_task pr l)
   words : HasWords pr l f
   on_units : HasTicks pr l ticks
+  front : IsFront pr l ranks first
   order_is : order ≡ by_start pr (length pr.works)
   late_is : late ≡ count_by (is_past pr) l
   hopeless_is : hopeless ≡ is_hopeless pr (length pr.works)
 
-kept_holds : (n : State) (pr : Problem) (l : List Decision) → n.problem ≡ pr → n.placed.items ≡ l → Kept pr l (vec_capacity n.placed) n.places.items n.homes.items n.frames n.ticks n.order.items n.late n.hopeless → Holds n
+kept_holds : (n : State) (pr : Problem) (l : List Decision) → n.problem ≡ pr → n.placed.items ≡ l → Kept pr l (vec_capacity n.placed) n.places.items n.homes.items n.frames n.ticks n.order.items n.ranks.items n.first n.late n.hopeless → Holds n
 kept_holds n pr l p e k =
-    let a = subst (λ x. Kept x l (vec_capacity n.placed) n.places.items n.homes.items n.frames n.ticks n.order.items n.late n.hopeless) (sym p) k in
-    let b = subst (λ x. Kept n.problem x (vec_capacity n.placed) n.places.items n.homes.items n.frames n.ticks n.order.items n.late n.hopeless) (sym e) a in
-    record { is_problem = b.is_problem; reached = b.reached; room = b.room; jobs = b.jobs; tasks = b.tasks; words = b.words; ticks = b.on_units; order_is = b.order_is; late_is = b.late_is; hopeless_is = b.hopeless_is }
+    let a = subst (λ x. Kept x l (vec_capacity n.placed) n.places.items n.homes.items n.frames n.ticks n.order.items n.ranks.items n.first n.late n.hopeless) (sym p) k in
+    let b = subst (λ x. Kept n.problem x (vec_capacity n.placed) n.places.items n.homes.items n.frames n.ticks n.order.items n.ranks.items n.first n.late n.hopeless) (sym e) a in
+    record { is_problem = b.is_problem; reached = b.reached; room = b.room; jobs = b.jobs; tasks = b.tasks; words = b.words; ticks = b.on_units; order_is = b.order_is; front = b.front; late_is = b.late_is; hopeless_is = b.hopeless_is }
 
 none_placed : (n : ℕ) (at : ℕ → Option ℕ) → ((k : ℕ) → at k ≡ None) → HasPlaces (replicate n None) n at
 none_placed n at h = record {
@@ -242,16 +244,17 @@ none_placed n at h = record {
 
 -- all that is kept, with one decision more
 pub push_holds : (s n : State) (d : Decision) (place job task : ℕ) → Holds s → IsNext s.problem s.placed.items d → n.problem ≡ s.problem → n.placed.items ≡ s.placed.items ++ d ∷ [] → vec_capacity s.placed ≤ vec_capacity n.placed
-    → n.places.items ≡ slice_set s.places.items job (Some place) → n.homes.items ≡ slice_set s.homes.items task (first_some (slice_index_or s.homes.items task None) (Some place)) → IsLoaded s.frames n.frames d.sent → HasTicks s.problem (s.placed.items ++ d ∷ []) n.ticks → n.order.items ≡ s.order.items
+    → n.places.items ≡ slice_set s.places.items job (Some place) → n.homes.items ≡ slice_set s.homes.items task (first_some (slice_index_or s.homes.items task None) (Some place)) → IsLoaded s.frames n.frames d.sent → HasTicks s.problem (s.placed.items ++ d ∷ []) n.ticks → n.order.items ≡ s.order.items → n.ranks.items ≡ s.ranks.items
+    → ((k j : ℕ) → slice_get s.order.items k ≡ Some j → s.first ≤ k → k < n.first → is_some (flat (slice_get n.places.items j)) ≡ true)
     → n.late ≡ s.late + one_if (is_past s.problem d) → n.hopeless ≡ s.hopeless → place ≡ length s.placed.items → job ≡ d.job → task ≡ (work_at s.problem d.job).task → Holds n
-push_holds s n d place job task h x p l room j t w u o late hope e i k =
+push_holds s n d place job task h x p l room j t w u o ranks far late hope e i k =
     let pr = s.problem in
     let c = next_chosen pr s.placed.items d h.reached x in
     let jobs : HasPlaces n.places.items (length pr.works) (place_of_job (s.placed.items ++ d ∷ [])) =
     subst (λ xs. HasPlaces xs (length pr.works) (place_of_job (s.placed.items ++ d ∷ []))) (sym (j ∙ ap (λ y. slice_set s.places.items y (Some place)) i)) (jobs_more pr s.placed.items d s.places.items place c h.jobs e) in
     let tasks : HasPlaces n.homes.items 64 (place_of_task pr (s.placed.items ++ d ∷ [])) =
     subst (λ xs. HasPlaces xs 64 (place_of_task pr (s.placed.items ++ d ∷ []))) (sym t) (tasks_more pr s.placed.items d s.homes.items place task h.is_problem c h.tasks e k) in
-    let m : Kept pr (s.placed.items ++ d ∷ []) (vec_capacity n.placed) n.places.items n.homes.items n.frames n.ticks n.order.items n.late n.hopeless = record {
+    let m : Kept pr (s.placed.items ++ d ∷ []) (vec_capacity n.placed) n.places.items n.homes.items n.frames n.ticks n.order.items n.ranks.items n.first n.late n.hopeless = record {
       is_problem = h.is_problem;
       reached = next_reached pr s.placed.items d h.reached x;
       room = omega (arith, h.room);
@@ -259,6 +262,8 @@ push_holds s n d place job task h x p l room j t w u o late hope e i k =
       tasks = tasks;
       words = words_more pr s.placed.items d s.frames n.frames h.words w;
       on_units = u;
+      front = subst (λ xs. IsFront pr (s.placed.items ++ d ∷ []) xs n.first) (sym ranks)
+          (front_more pr s.placed.items d s.ranks.items s.order.items n.places.items s.first n.first h.front (good pr (s.placed.items ++ d ∷ []) (next_reached pr s.placed.items d h.reached x)) jobs h.order_is far);
       order_is = o ∙ h.order_is;
       late_is = late ∙ late_more pr s.placed.items d s.late h.late_is;
       hopeless_is = hope ∙ h.hopeless_is;
@@ -277,9 +282,9 @@ undone_late s l d h e = late_less s.problem l d s.late (h.late_is ∙ ap (count_
 
 -- all that is kept, with one decision less
 pub undo_holds : (s n : State) (d : Decision) (place job task : ℕ) → Holds s → n.problem ≡ s.problem → s.placed.items ≡ n.placed.items ++ d ∷ [] → vec_capacity s.placed ≤ vec_capacity n.placed
-    → n.places.items ≡ slice_set s.places.items job None → n.homes.items ≡ slice_set s.homes.items task (without (slice_index_or s.homes.items task None) place) → IsLoaded n.frames s.frames d.sent → HasTicks s.problem n.placed.items n.ticks → n.order.items ≡ s.order.items
+    → n.places.items ≡ slice_set s.places.items job None → n.homes.items ≡ slice_set s.homes.items task (without (slice_index_or s.homes.items task None) place) → IsLoaded n.frames s.frames d.sent → HasTicks s.problem n.placed.items n.ticks → n.order.items ≡ s.order.items → n.ranks.items ≡ s.ranks.items → n.first ≡ min s.first (get_or s.ranks.items d.job 0)
     → n.late ≡ s.late - one_if (is_past s.problem d) → n.hopeless ≡ s.hopeless → place ≡ length n.placed.items → job ≡ d.job → task ≡ (work_at s.problem d.job).task → Holds n
-undo_holds s n d place job task h p l room j t w u o late hope e i k =
+undo_holds s n d place job task h p l room j t w u o ranks far late hope e i k =
     let pr = s.problem in
     let front = n.placed.items in
     let c = undone_chosen s front d h l in
@@ -287,7 +292,7 @@ undo_holds s n d place job task h p l room j t w u o late hope e i k =
     subst (λ xs. HasPlaces xs (length pr.works) (place_of_job front)) (sym (j ∙ ap (λ y. slice_set s.places.items y None) i)) (jobs_less pr front d s.places.items c.1 (subst (λ xs. HasPlaces s.places.items (length pr.works) (place_of_job xs)) l h.jobs)) in
     let tasks : HasPlaces n.homes.items 64 (place_of_task pr front) =
     subst (λ xs. HasPlaces xs 64 (place_of_task pr front)) (sym t) (tasks_less pr front d s.homes.items place task h.is_problem c.1 (subst (λ xs. HasPlaces s.homes.items 64 (place_of_task pr xs)) l h.tasks) e k) in
-    let m : Kept pr front (vec_capacity n.placed) n.places.items n.homes.items n.frames n.ticks n.order.items n.late n.hopeless = record {
+    let m : Kept pr front (vec_capacity n.placed) n.places.items n.homes.items n.frames n.ticks n.order.items n.ranks.items n.first n.late n.hopeless = record {
       is_problem = h.is_problem;
       reached = c.0;
       room = omega (arith, h.room);
@@ -295,6 +300,7 @@ undo_holds s n d place job task h p l room j t w u o late hope e i k =
       tasks = tasks;
       words = words_less pr front d s.frames n.frames (subst (λ xs. HasWords pr xs s.frames) l h.words) w;
       on_units = u;
+      front = subst (λ xs. IsFront pr front xs n.first) (sym ranks) (front_less pr front d s.ranks.items s.first n.first (get_or s.ranks.items d.job 0) (subst (λ xs. IsFront pr xs s.ranks.items s.first) l h.front) c.1.choice.is_job refl far);
       order_is = o ∙ h.order_is;
       late_is = late ∙ (undone_late s front d h l).1;
       hopeless_is = hope ∙ h.hopeless_is;
@@ -303,9 +309,9 @@ undo_holds s n d place job task h p l room j t w u o late hope e i k =
 
 -- no decision yet
 pub empty_holds : (n : State) (jobs : ℕ) → IsProblem n.problem → n.placed.items ≡ [] → jobs ≡ length n.problem.works → jobs ≤ vec_capacity n.placed → n.places.items ≡ replicate jobs None → n.homes.items ≡ replicate 64 None → n.frames.layout ≡ n.problem.round
-    → ((unit k : ℕ) → taken_in n.frames unit k ≡ 0) → HasTicks n.problem [] n.ticks → n.order.items ≡ by_start n.problem (length n.problem.works) → n.late ≡ 0 → n.hopeless ≡ is_hopeless n.problem (length n.problem.works) → Holds n
-empty_holds n jobs i l j room p t f z u o late hope =
-    let m : Kept n.problem [] (vec_capacity n.placed) n.places.items n.homes.items n.frames n.ticks n.order.items n.late n.hopeless = record {
+    → ((unit k : ℕ) → taken_in n.frames unit k ≡ 0) → HasTicks n.problem [] n.ticks → IsFront n.problem [] n.ranks.items n.first → n.order.items ≡ by_start n.problem (length n.problem.works) → n.late ≡ 0 → n.hopeless ≡ is_hopeless n.problem (length n.problem.works) → Holds n
+empty_holds n jobs i l j room p t f z u far o late hope =
+    let m : Kept n.problem [] (vec_capacity n.placed) n.places.items n.homes.items n.frames n.ticks n.order.items n.ranks.items n.first n.late n.hopeless = record {
       is_problem = i;
       reached = ([], refl);
       room = omega arith;
@@ -313,6 +319,7 @@ empty_holds n jobs i l j room p t f z u o late hope =
       tasks = subst (λ xs. HasPlaces xs 64 (place_of_task n.problem [])) (sym t) (none_placed 64 (place_of_task n.problem []) (λ k. refl));
       words = record { layout = f; taken = λ unit round v r. z unit round };
       on_units = u;
+      front = far;
       order_is = o;
       late_is = late;
       hopeless_is = hope;

@@ -1,12 +1,12 @@
 -- A list of decisions as its callers see it, and what is kept beside it.
-use Rattle.std.specs.Prelude.{◌≡◌, ℕ, zero, suc, ◌+◌, ◌<◌, ◌≤◌, ◌==◌, ◌||◌, not, leb, Bool, false, List, [], length, get_or, position, slice_get, count_by, Option, Some, vec_capacity}
+use Rattle.std.specs.Prelude.{◌≡◌, ℕ, zero, suc, ◌+◌, ◌<◌, ◌≤◌, ◌==◌, ◌||◌, not, leb, Bool, true, false, List, [], length, get_or, position, slice_get, count_by, Option, Some, vec_capacity}
 use Rattle.tdma.specs.Load.{Load, taken_in}
 use Rattle.decisions.specs.declared.problem.Problem.{Problem}
 use Rattle.decisions.specs.Decision.{Decision, work_at}
 use Rattle.decisions.specs.declared.placed.Ticks.{Ticks}
 use Rattle.decisions.specs.Place.{words_taken, ticks_on}
 use Rattle.unit_ticks.specs.Busy.{Busy, by_time}
-use Rattle.decisions.specs.Choices.{by_start, IsReached}
+use Rattle.decisions.specs.Choices.{by_start, is_placed, IsReached}
 use Rattle.decisions.specs.IsProblem.{IsProblem}
 use Rattle.placement.specs.declared.state.State.{State}
 
@@ -51,6 +51,12 @@ pub record HasTicks (pr : Problem) (l : List Decision) (b : Busy) : Type 0 where
   pub units : length b.rows ≡ pr.round.units
   pub each : (unit : ℕ) → unit < pr.round.units → get_or b.rows unit [] ≡ by_time (ticks_on l unit)
 
+-- the jobs before a place in the order are placed, and no job stands there before its rank
+pub record IsFront (pr : Problem) (l : List Decision) (ranks : List ℕ) (first : ℕ) : Type 0 where
+  pub size : length ranks ≡ length pr.works
+  pub least : (job k : ℕ) → job < length pr.works → slice_get (by_start pr (length pr.works)) k ≡ Some job → get_or ranks job 0 ≤ k
+  pub placed : (k job : ℕ) → slice_get (by_start pr (length pr.works)) k ≡ Some job → k < first → is_placed l job ≡ true
+
 -- all that is kept beside the list
 pub record Holds (s : State) : Type 0 where
   pub is_problem : IsProblem s.problem
@@ -61,5 +67,6 @@ pub record Holds (s : State) : Type 0 where
   pub words : HasWords s.problem s.placed.items s.frames
   pub ticks : HasTicks s.problem s.placed.items s.ticks
   pub order_is : s.order.items ≡ by_start s.problem (length s.problem.works)
+  pub front : IsFront s.problem s.placed.items s.ranks.items s.first
   pub late_is : s.late ≡ count_by (is_past s.problem) s.placed.items
   pub hopeless_is : s.hopeless ≡ is_hopeless s.problem (length s.problem.works)

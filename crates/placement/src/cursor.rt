@@ -57,7 +57,7 @@ pub(crate) fn first(state: &State) -> Cursor
     ensures { IsLeft state.now.problem state.now.placed.items result (choices state.now.problem state.now.placed.items) }
 {
     Cursor {
-        jobs: 0,
+        jobs: state.first,
         job: 0,
         row: ArrayVec::new(),
         told: 0,

@@ -3,6 +3,7 @@
 
 pub mod cursor;
 mod fits;
+mod front;
 mod into_tables;
 mod latest;
 mod moves;

@@ -6,6 +6,7 @@ ghost use Rattle.graph.specs.NetGraph.{IsNetGraph};
 ghost use Rattle.placement.specs.Feeding.{IsNext, first_some, without, one_if as one_where};
 ghost use Rattle.placement.specs.Held.{Holds, ticks_of as ticks_in};
 
+use crate::front::{lesser, placed_to, rank_at, ranks_of};
 use crate::latest::{by_start, is_hopeless, is_past, work};
 use crate::rooms::{give_all, take_all};
 use crate::state::State;
@@ -37,6 +38,7 @@ pub(crate) fn empty(alloc: Global, net: &Net, graph: &Graph) -> Result<State, Me
     let problem = problem_of(alloc, net, graph)?;
     let jobs = problem.works.len();
     let order = by_start(alloc, &problem)?;
+    let ranks = ranks_of(alloc, order.as_slice(), jobs)?;
     let hopeless = is_hopeless(&problem);
     let frames = Frames::new(alloc, &problem.round)?;
     let ticks = UnitTicks::new(alloc, problem.round.units(), jobs)?;
@@ -51,6 +53,8 @@ pub(crate) fn empty(alloc: Global, net: &Net, graph: &Graph) -> Result<State, Me
         frames,
         ticks,
         order,
+        ranks,
+        first: 0,
         late: 0,
         hopeless,
     })
@@ -114,6 +118,7 @@ pub(crate) fn push(state: &mut State, placed: Placed)
     state.ticks.take(placed.unit(), ticks_of(&placed));
     set_place(&mut state.places, job, Some(place));
     note(&mut state.homes, task, place);
+    state.first = placed_to(state.order.as_slice(), state.places.as_slice(), state.first);
     state.late = late;
     append(&mut state.placed, placed);
 }
@@ -154,6 +159,7 @@ pub(crate) fn undo(state: &mut State)
     let late = state.late - one_if(is_past(&state.problem, &placed));
     set_place(&mut state.places, job, None);
     forget(&mut state.homes, task, place);
+    state.first = lesser(state.first, rank_at(state.ranks.as_slice(), job));
     give_all(&mut state.frames, placed.sent());
     state.ticks.give_back(placed.unit(), placed.start());
     state.late = late;

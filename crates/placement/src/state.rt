@@ -3,8 +3,9 @@ use decisions::{Placed, Problem};
 use tdma::Frames;
 use unit_ticks::UnitTicks;
 
-/// The decisions so far, with the places of jobs' and of tasks' first decisions, the words taken in frames and
-/// the ticks on units, the jobs by latest start, how many jobs start after it, and whether a job has its latest start before its release.
+/// The decisions so far, with the places of jobs' and of tasks' first decisions, the words taken in frames and the ticks on
+/// units, the jobs by latest start, how many of the first of them are placed, how many jobs start after their latest start,
+/// and whether a job has its latest start before its release.
 #[derive(Drop)]
 pub struct State {
     /// What is to be placed.
@@ -21,6 +22,10 @@ pub struct State {
     pub ticks: UnitTicks,
     /// The jobs by latest start and then by number.
     pub order: Vec<u16>,
+    /// The place of each job among them.
+    pub ranks: Vec<usize>,
+    /// Jobs that stand there before this place are placed.
+    pub first: usize,
     /// How many decisions start after their job's latest start.
     pub late: usize,
     /// Whether a job has its latest start before its release.

@@ -1,10 +1,12 @@
-use Rattle.std.proofs.Common.{◌+◌, ◌≤◌, refl, sym, ap, ◌∙◌, subst, arith}
+use Rattle.std.proofs.Common.{◌≡◌, ◌+◌, ◌≤◌, refl, sym, ap, ◌∙◌, subst, arith}
 use Rattle.tdma.specs.Load.{taken_in}
 use Rattle.decisions.specs.Place.{words_sent}
 use Rattle.placement.specs.Feeding.{one_if}
 use Rattle.placement.specs.Loads.{AreInside, IsLoaded}
 use Rattle.placement.proofs.Holding.{next_chosen, sent_inside, sent_fits, push_holds}
 use Rattle.placement.proofs.Timing.{open_ticks, ticks_more}
+use Rattle.std.specs.Prelude.{slice_get, is_some, true}
+use Rattle.placement.specs.Feeding.{flat}
 use Rattle.placement.proofs.moves.push.Goals as goal
 
 pub overflow_cast-place : goal.overflow_cast-place
@@ -80,5 +82,6 @@ returns-clause-holds c =
     let h = next_chosen s.problem s.placed.items c.args.placed c.requires.holds.reached c.requires.next in
     push_holds s _ c.args.placed c.len-place.result c.from-job.result c.task_of-task.result c.requires.holds c.requires.next
     refl c.append.ensures.items c.append.ensures.room c.set_place.ensures c.note.ensures (subst (IsLoaded s.frames c.take_all.new.frames) c.sent.ensures.value c.take_all.ensures)
-    (ticks_more s.problem s.placed.items c.args.placed s.ticks c.take.new.self c.unit.result c.ticks_of.result c.requires.holds.ticks h.choice.is_unit c.unit.ensures c.ticks_of.ensures c.take.ensures.room c.take.ensures.rows) refl
+    (ticks_more s.problem s.placed.items c.args.placed s.ticks c.take.new.self c.unit.result c.ticks_of.result c.requires.holds.ticks h.choice.is_unit c.unit.ensures c.ticks_of.ensures c.take.ensures.room c.take.ensures.rows) refl refl
+    (λ k j at low less. subst (λ xs. is_some (flat (slice_get xs j)) ≡ true) c.as_slice-2.ensures.value (c.placed_to-state.ensures.placed k j (ap (λ xs. slice_get xs k) c.as_slice.ensures.value ∙ at) low less))
     (ap (λ n. s.late + n) (c.one_if.ensures ∙ ap one_if c.is_past.ensures)) refl (omega (arith, c.len-place.ensures)) (c.from-job.ensures ∙ c.job.ensures) c.task_of-task.ensures
