@@ -82,7 +82,7 @@ module _ (plant : Plant Code) (s : SourceProject) (is : IsSourceProject s) (c : 
   planned : IsPlannedFrom s plant
   planned = record { net = c.net; codes = c.codes; short = short; bounds = c.bounds; states = c.states; graph = c.graph; tables = c.tables }
 
-  graph_is : IsNetGraph plant.net plant.graph
+  pub graph_is : IsNetGraph plant.net plant.graph
   graph_is = record { lengths = lengths_of plant.maxts plant.net.shape.cycles_per_tick; is = c.graph }
 
   in_time : (silences : List Silence) → AreInTime plant.graph (setting_of plant silences).ends
@@ -94,10 +94,10 @@ module _ (plant : Plant Code) (s : SourceProject) (is : IsSourceProject s) (c : 
   tasks_are : length plant.net.tasks ≡ length s.net.tasks
   tasks_are = ap (λ (n : Net). length n.tasks) c.net
 
-  count : length plant.states ≡ length plant.net.tasks
+  pub count : length plant.states ≡ length plant.net.tasks
   count = ap (λ (ws : List ℕ). length ws) c.states ∙ length-map s.tasks (λ (t : Task). width_of is_state t.cells) ∙ is.count ∙ sym tasks_are
 
-  fits_source : (task : ℕ) → task < length plant.net.tasks → FitsTask plant.net plant.states (plant_execution exec plant) (source_execution s.tasks) task
+  pub fits_source : (task : ℕ) → task < length plant.net.tasks → FitsTask plant.net plant.states (plant_execution exec plant) (source_execution s.tasks) task
   fits_source task low =
       subst (λ (n : Net). FitsTask n plant.states (plant_execution exec plant) (source_execution s.tasks) task) (sym c.net)
       (subst (λ ws. FitsTask s.net ws (plant_execution exec plant) (source_execution s.tasks) task) (sym c.states) (task_fits plant s is planned task (omega (arith, low, tasks_are))))
@@ -105,7 +105,7 @@ module _ (plant : Plant Code) (s : SourceProject) (is : IsSourceProject s) (c : 
   fits_plant : (task : ℕ) → task < length plant.net.tasks → FitsTask plant.net plant.states (plant_execution exec plant) (plant_execution exec plant) task
   fits_plant task low = record { same = λ state ins a b. refl; left = (fits_source task low).left }
 
-  set : IsSet plant.net plant.graph plant.tables plant.states (plant_execution exec plant)
+  pub set : IsSet plant.net plant.graph plant.tables plant.states (plant_execution exec plant)
   set = record { graph = graph_is; tables = c.tables; count = count; fits = fits_plant }
 
   abbrev here : List Silence → Setting

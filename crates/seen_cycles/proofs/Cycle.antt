@@ -1,5 +1,5 @@
 -- The cycles that a cycle of a cluster shows of each job are those along the net.
-use Rattle.std.proofs.Common.{◌≡◌, ℕ, suc, ◌+◌, ◌*◌, ◌/◌, ◌<◌, ◌≤◌, inl, inr, ◌⊎◌, List, [], ◌∷◌, ◌++◌, length, get_or, map, ℤ, Bool, true, false, cond, not, max, Option, Some, None, refl, sym, ◌∙◌, ap, subst, arith}
+use Rattle.std.proofs.Common.{◌≡◌, ℕ, suc, ◌*◌, ◌/◌, ◌<◌, ◌≤◌, inl, inr, ◌⊎◌, List, [], ◌∷◌, length, get_or, ℤ, true, false, cond, not, max, Option, Some, None, refl, sym, ◌∙◌, ap, subst, arith}
 use Rattle.std.specs.List.{list_any, list_all}
 use Rattle.std.proofs.lemmas.Bool.{cases_Bool, cases_lt, true≢false, and_parts}
 use Rattle.std.proofs.lemmas.List.{get_or-map, length-map}
@@ -20,16 +20,16 @@ use Rattle.net_run.specs.NetRun.{JobResult, Done, Broken, Skipped, Execution, gi
 use Rattle.net_run.specs.Words.{carried}
 use Rattle.net_run.proofs.Listed.{results_by_number}
 use Rattle.net_run.proofs.Ports.{inputs_same, carried_same, edge_feeds, feeds}
-use Rattle.cluster_model.specs.Cluster.{is_silent, is_through, is_over, left_states, turned, turn, settled, happens, IsLineOf, fresh_held, fresh_member, first_state}
-use Rattle.cluster_model.specs.Plan.{Plan, listed}
+use Rattle.cluster_model.specs.Cluster.{is_silent, is_through, is_over, turned, turn, settled, happens, IsLineOf, fresh_member, first_state}
+use Rattle.cluster_model.specs.Plan.{Plan}
 use Rattle.cluster_model.specs.PlanOf.{plan_of}
 use Rattle.cluster_model.specs.PlanRun.{before, along, takes, AreResults}
 use Rattle.cluster_model.specs.Silences.{falls}
 use Rattle.cluster_model.specs.Sound.{IsSoundPlan, AreGiven}
-use Rattle.cluster_model.specs.State.{Status, Waiting, Busy, Gave, Broke, PassedOver, told, given, Held, status_in, Member, no_member, replica_number, member_of, State}
+use Rattle.cluster_model.specs.State.{Status, Waiting, Busy, Gave, Broke, PassedOver, told, given, status_in, Member, no_member, replica_number, member_of, State}
 use Rattle.cluster_plan.specs.Follows.{out_count, along_graph}
 use Rattle.cluster_plan.proofs.Numbers.{is_of}
-use Rattle.cluster_plan.proofs.Results.{graph_results, result_there, before_there}
+use Rattle.cluster_plan.proofs.Results.{result_there, before_there}
 use Rattle.cluster_plan.proofs.Whole.{sound_plans}
 use Rattle.cluster_agreement.specs.Agreement.{IsSet}
 use Rattle.cluster_agreement.specs.Runs.{Event, steps, NoneLost}
@@ -47,8 +47,8 @@ use Rattle.event_effects.specs.Effects.{effects_in, most_taken, taken_in}
 use Rattle.plant_run.specs.PlantRun.{Cost}
 use Rattle.run_texts.specs.Along.{spent, result_at}
 use Rattle.run_agreement.specs.ClusterRun.{is_told, shown_in}
-use Rattle.run_agreement.proofs.Cycle.{Before, after, more, same, shown_right, next_before, first_before, some_unit}
-use Rattle.seen_cycles.proofs.Event.{is_done, worth, Here, Idle}
+use Rattle.run_agreement.proofs.Cycle.{Before, more, same, shown_right, next_before, first_before, some_unit}
+use Rattle.seen_cycles.proofs.Event.{is_done, worth}
 use Rattle.seen_cycles.proofs.Events.{all_most, all_least}
 
 told_given : (r : JobResult) → given (told r) ≡ given_by r

@@ -1,23 +1,22 @@
 -- What one event of a cycle shows of a job's cycles, and what it leaves of the job.
-use Rattle.std.proofs.Common.{◌≡◌, ℕ, suc, ◌+◌, ◌*◌, ◌<◌, ◌≤◌, List, [], ◌∷◌, ◌++◌, length, set, ℤ, Bool, true, false, cond, max, nat_eq, ◌&&◌, Option, Some, None, inl, inr, refl, sym, ◌∙◌, ap, subst, arith}
+use Rattle.std.proofs.Common.{◌≡◌, ℕ, suc, ◌<◌, ◌≤◌, List, [], ◌++◌, length, set, ℤ, Bool, true, false, cond, nat_eq, Option, Some, None, inl, inr, refl, sym, ◌∙◌, ap, arith}
 use Rattle.std.specs.Prelude.{filter}
-use Rattle.std.specs.List.{range_with_len, flat_map}
 use Rattle.std.proofs.lemmas.Bool.{cases_Bool, cases_eq, eq-eqb, ne_eqb, true≢false}
 use Rattle.mars_base.specs.declared.shape.Side.{Side}
 use Rattle.script.specs.declared.script.Silence.{Silence}
 use Rattle.net_run.specs.NetRun.{JobResult}
-use Rattle.cluster_model.specs.Cluster.{IsEnabled, fallen, after_tick, event}
+use Rattle.cluster_model.specs.Cluster.{IsEnabled, after_tick, event}
 use Rattle.cluster_model.specs.Effects.{take_effects, put_effects, start_effects, ending, fall_effects}
 use Rattle.cluster_model.specs.Plan.{Plan}
-use Rattle.cluster_model.specs.PlanRun.{before, takes, comes_to, AreResults}
+use Rattle.cluster_model.specs.PlanRun.{before, takes, AreResults}
 use Rattle.cluster_model.specs.Silences.{falls}
 use Rattle.cluster_model.specs.Sound.{IsSoundPlan, AreGiven}
-use Rattle.cluster_model.specs.State.{Status, Waiting, Busy, Gave, Broke, PassedOver, told, given, Held, state_in, status_in, Member, replica_number, member_of, Bus, bus_in}
+use Rattle.cluster_model.specs.State.{Status, Waiting, told, given, Held, state_in, status_in, Member, replica_number, member_of, Bus, bus_in}
 use Rattle.cluster_model.specs.declared.effect.Effect.{Effect}
-use Rattle.cluster_model.specs.Tick.{begun, finds, opens, ended, closes}
+use Rattle.cluster_model.specs.Tick.{begun, finds, opens, closes}
 use Rattle.cluster_agreement.specs.Keeps.{began, Holds}
 use Rattle.cluster_agreement.proofs.Frames.{takes_right}
-use Rattle.cluster_agreement.proofs.Jobs.{opens_at, opens_other, closes_at, closes_other, now_busy}
+use Rattle.cluster_agreement.proofs.Jobs.{opens_at, opens_other, closes_other, now_busy}
 use Rattle.cluster_agreement.proofs.Reading.{listed_at, number_within, put_cases}
 use Rattle.event_effects.specs.Effects.{other, is_given, shows, shown_ends, shown_tick, most_taken}
 use Rattle.run_texts.specs.Along.{spent}

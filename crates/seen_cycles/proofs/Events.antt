@@ -1,10 +1,10 @@
 -- What the events of a cycle show of a job's cycles.
-use Rattle.std.proofs.Common.{◌≡◌, ℕ, suc, ◌+◌, ◌*◌, ◌<◌, ◌≤◌, List, [], ◌∷◌, ◌++◌, length, ℤ, Bool, true, false, cond, max, inl, inr, refl, sym, ◌∙◌, ap, subst, arith}
+use Rattle.std.proofs.Common.{◌≡◌, ℕ, ◌<◌, ◌≤◌, List, [], ◌∷◌, ℤ, true, false, inl, inr, sym, ◌∙◌, ap, subst, arith}
 use Rattle.std.proofs.lemmas.Bool.{cases_Bool, true≢false}
 use Rattle.mars_base.specs.declared.shape.Side.{Side}
 use Rattle.script.specs.declared.script.Silence.{Silence}
 use Rattle.net_run.specs.NetRun.{JobResult}
-use Rattle.cluster_model.specs.Cluster.{IsEnabled, happens, step, settled}
+use Rattle.cluster_model.specs.Cluster.{IsEnabled, happens, step}
 use Rattle.cluster_model.specs.Plan.{Plan}
 use Rattle.cluster_model.specs.PlanRun.{AreResults}
 use Rattle.cluster_model.specs.Silences.{falls}

@@ -1,8 +1,8 @@
 -- The whole text of a cluster's run.
-use Rattle.std.proofs.Common.{◌≡◌, ℕ, zero, suc, ◌+◌, ◌<◌, ◌≤◌, inl, inr, List, [], ◌++◌, length, ℤ, Bool, true, false, cond, max, refl, sym, ◌∙◌, ap, arith}
+use Rattle.std.proofs.Common.{◌≡◌, ℕ, zero, suc, ◌+◌, ◌<◌, ◌≤◌, List, [], ◌++◌, length, ℤ, Bool, true, false, cond, max, refl, sym, ◌∙◌, ap, arith}
 use Rattle.std.specs.Prelude.{slice_index}
 use Rattle.std.specs.List.{range_with_len, flat_map}
-use Rattle.std.proofs.lemmas.Bool.{cases_Bool, true≢false}
+use Rattle.std.proofs.lemmas.Bool.{true≢false}
 use Rattle.script.specs.Running.{IsLost}
 use Rattle.script.specs.declared.script.Pace.{Pace}
 use Rattle.script.specs.declared.script.Silence.{Silence}
@@ -22,11 +22,11 @@ use Rattle.cluster_model.specs.State.{State}
 use Rattle.plant_run.specs.PlantRun.{Cost}
 use Rattle.run_texts.specs.Along.{along_net}
 use Rattle.run_texts.specs.Lines.{task_line}
-use Rattle.run_texts.specs.RunText.{Going, RunEnding, Finished, BadLine, Lost, Broken, some_broke, most, closing, closed, ending_from, seen_from, seen_in, cycles_text, run_ending}
+use Rattle.run_texts.specs.RunText.{Going, RunEnding, Finished, BadLine, Lost, Broken, some_broke, most, closed, ending_from, seen_from, seen_in, cycles_text, run_ending}
 use Rattle.run_texts.specs.Setting.{Setting, name_of_task, is_lost, some_lost}
 use Rattle.run_agreement.specs.Agreement.{AreLines, setting}
 use Rattle.run_agreement.specs.ClusterRun.{along_cluster}
-use Rattle.run_agreement.proofs.Cycle.{after, more, same}
+use Rattle.run_agreement.proofs.Cycle.{more, same}
 use Rattle.run_agreement.proofs.Losses.{any_from, lost_units}
 use Rattle.run_agreement.proofs.Whole.{run_agreement}
 use Rattle.seen_cycles.specs.Seen.{WholeTexts}
