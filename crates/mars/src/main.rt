@@ -1,7 +1,6 @@
 //! The program `mars`, over the real files and streams.
 #![tactic(auto)]
 
-mod host;
 #[cfg(test)]
 mod order;
 #[cfg(test)]
@@ -9,7 +8,7 @@ mod plans;
 #[cfg(test)]
 mod tests;
 
-use host::{FileShelf, StdSink, StdSource};
+use mars_host::{FileShelf, StdSink, StdSource};
 use mars_top::{Refusal, mars, say, status};
 use std::io::ErrorKind;
 use std::process::ExitCode;

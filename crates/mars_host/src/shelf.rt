@@ -1,34 +1,17 @@
-//! The outside as the system gives it. None of it tells what it holds, so that what is proved of it is
-//! only that each fault is counted.
-ghost use Rattle.std.specs.Io.{ReadsAtMost};
+//! The real files.
 ghost use Rattle.std.specs.Prelude.{None};
 
-use mars_base::{Shelf, ShelfFault, Sink, SinkFault, Source, SourceFault};
+use crate::reading::read_once;
+use mars_base::{Shelf, ShelfFault};
 use std::alloc::Global;
 use std::fs;
-use std::io::{self, ErrorKind, Read, Write};
+use std::io::ErrorKind;
 use std::rt::Files;
 
 // How many bytes of a file are asked for at a time.
 const CHUNK: usize = 4_096;
 
-// How often a read that was interrupted is tried again.
-const TRIES: u32 = 1_000_000;
-
-// One read; a read that a signal interrupted is tried again.
-fn read_once<R: Read>(reader: &mut R, buf: &mut [u8]) -> io::Result<usize>
-    ensures { ReadsAtMost result buf.new }
-{
-    for _ in 0..TRIES {
-        match reader.read(buf) {
-            Err(error) if error.kind() == ErrorKind::Interrupted => {}
-            answer => return answer,
-        }
-    }
-    reader.read(buf)
-}
-
-/// The real files.
+/// The real files. Reads and writes that fail are counted, each by its own count.
 #[derive(Drop)]
 pub struct FileShelf<'a, R> {
     rt: &'a R,
@@ -96,60 +79,20 @@ impl<R: Files> Shelf for FileShelf<'_, R> {
     }
 }
 
-/// Any reader as the input.
-#[derive(Drop)]
-pub struct StdSource<R> {
-    inner: R,
-    faults: u64,
-}
+#[cfg(test)]
+mod tests {
+    use super::FileShelf;
+    use mars_base::{Shelf, ShelfFault};
 
-impl<R> StdSource<R> {
-    /// The bytes of a reader.
-    pub fn new(inner: R) -> Self {
-        StdSource { inner, faults: 0 }
-    }
-}
-
-impl<R: Read> Source for StdSource<R> {
-    ghost left = { λ _. None };
-
-    ghost faults = { λ s. s.faults };
-
-    fn read(&mut self, buf: &mut [u8]) -> Result<usize, SourceFault> {
-        match read_once(&mut self.inner, buf) {
-            Ok(count) => Ok(count),
-            Err(_) => {
-                self.faults = self.faults.saturating_add(1);
-                Err(SourceFault)
-            }
-        }
-    }
-}
-
-/// Any writer as an output. Each put is flushed, so that it is seen at once.
-#[derive(Drop)]
-pub struct StdSink<W> {
-    inner: W,
-    faults: u64,
-}
-
-impl<W> StdSink<W> {
-    /// The output that a writer is.
-    pub fn new(inner: W) -> Self {
-        StdSink { inner, faults: 0 }
-    }
-}
-
-impl<W: Write> Sink for StdSink<W> {
-    ghost holds = { λ _. None };
-
-    ghost faults = { λ s. s.faults };
-
-    fn put(&mut self, bytes: &[u8]) -> Result<(), SinkFault> {
-        if self.inner.write_all(bytes).is_err() || self.inner.flush().is_err() {
-            self.faults = self.faults.saturating_add(1);
-            return Err(SinkFault);
-        }
-        Ok(())
+    #[test]
+    fn faults_of_files_are_counted(rt: HostRuntime) {
+        let mut shelf = FileShelf::new(&rt);
+        let missing = shelf.read(rt.alloc(), "no/such/folder/file", 10);
+        assert!(rt; matches!(missing, Err(ShelfFault::Missing)));
+        assert_eq!(rt;
+            shelf.write("no/such/folder/file", b"1"),
+            Err(ShelfFault::Failed)
+        );
+        assert_eq!(rt; (shelf.bad_reads, shelf.bad_writes), (1, 1));
     }
 }
