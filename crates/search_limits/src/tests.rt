@@ -8,7 +8,7 @@ use std::alloc::Global;
 use std::process::Abort;
 use std::test::Fail;
 use tables::{JobEntry, Tables};
-use worked_nets::{graph_of, net_of, plug_of, shape_of, task_of};
+use worked_nets::{edge_of, graph_of, net_of, plug_of, shape_of, task_of};
 
 /// The names of the tasks, and of the sensor that feeds each: a row for each tick, a column for each unit.
 const NAMES: [&str; 64] = [
@@ -70,5 +70,41 @@ fn as_many_steps_as_tasks_and_one(rt: HostRuntime) -> Result<(), Fail> {
     let net = sixty_four_tasks(alloc)?;
     compare_tables(&rt, alloc, &net, 65)?;
     compare_spent(&rt, alloc, &net, 64);
+    Ok(())
+}
+
+/// A chain of a task for each name, in turn on two units, in one transaction that comes eight times in a cycle: 512 jobs.
+fn chain_of_tasks(alloc: Global) -> Result<Net, Memory> {
+    let shape = shape_of(2, 7, 16);
+    let mut net = net_of(
+        alloc,
+        shape,
+        &[],
+        &[("t", 1026, 1026)],
+        &[],
+        &[("s", 0)],
+        &[],
+    )?;
+    for (task, name) in (0u8..64).zip(NAMES.iter()) {
+        net.tasks.push(task_of(alloc, name, 0, 1 << (task % 2))?)?;
+    }
+    for task in 0u8..63 {
+        net.edges.push(edge_of(task, task + 1))?;
+    }
+    Ok(net)
+}
+
+#[test]
+fn as_many_steps_as_jobs_and_one(rt: HostRuntime) -> Result<(), Fail> {
+    let alloc = rt.alloc();
+    let net = chain_of_tasks(alloc)?;
+    let mut steps = Steps::new();
+    let Ok(tables) = searched(alloc, &net, 513, &mut steps) else {
+        return Err(Memory.into());
+    };
+    assert_eq!(rt; steps.taken(), 513);
+    assert_eq!(rt; tables.jobs.len(), 512);
+    assert_eq!(rt; tables.messages.len(), 504);
+    compare_spent(&rt, alloc, &net, 512);
     Ok(())
 }
