@@ -1,10 +1,9 @@
 -- What a replica holds, tick by tick.
-use Rattle.std.proofs.Common.{◌≡◌, ℕ, suc, ◌+◌, ◌<◌, ◌≤◌, List, [], ◌∷◌, ◌++◌, length, get_or, map, ℤ, Option, None, Some, refl, sym, ◌∙◌, ap, subst, arith}
-use Rattle.std.specs.Prelude.{slice_get, slice_index}
-use Rattle.std.proofs.lemmas.List.{get_or-map, length-map}
+use Rattle.std.proofs.Common.{◌≡◌, ℕ, suc, ◌+◌, ◌<◌, List, [], length, get_or, map, ℤ, Option, None, Some, refl, sym, ◌∙◌, ap, subst, arith}
+use Rattle.std.proofs.lemmas.List.{get_or-map}
 use Rattle.graph.specs.JobGraph.{JobGraph}
 use Rattle.plant.specs.declared.system.Plant.{Plant}
-use Rattle.tables.specs.Named.{job_at, entry_at}
+use Rattle.tables.specs.Named.{entry_at}
 use Rattle.job_book.specs.Known.{Known, Waiting, InHand, Gave, Broke, PassedOver, given_by, status_of}
 use Rattle.cluster_model.specs.Plan.{Plan, listed}
 use Rattle.cluster_model.specs.State as status
@@ -13,7 +12,7 @@ use Rattle.cluster_model.specs.Tick.{took, opens, closes, ticked}
 use Rattle.replica_desk.specs.declared.desk.Desk.{Desk}
 use Rattle.replica_desk.specs.Desk.{held_in}
 use Rattle.replica_work.specs.Ends.{states_at}
-use Rattle.replica_work.specs.Works.{RunsOn, limit_before, state_for, task_in}
+use Rattle.replica_work.specs.Works.{RunsOn, limit_before, task_in}
 
 given_status : (s i : List ℤ) (known : Known) → given (status_of s i known) ≡ given_by known
 given_status s i Waiting = refl

@@ -1,6 +1,6 @@
 -- A desk one tick later, where the job in hand goes on, ends, or none is in hand.
-use Rattle.std.proofs.Common.{◌≡◌, ◌≢◌, ℕ, ◌+◌, ◌-◌, ◌<◌, ◌≤◌, inl, inr, List, [], ◌++◌, length, get_or, map, ℤ, Option, None, Some, sym, ◌∙◌, ap, subst, arith}
-use Rattle.std.specs.Prelude.{⊤, slice_get, slice_index}
+use Rattle.std.proofs.Common.{◌≡◌, ◌≢◌, ℕ, ◌+◌, ◌-◌, ◌<◌, ◌≤◌, inl, inr, List, [], length, get_or, map, ℤ, None, Some, sym, ◌∙◌, ap, subst, arith}
+use Rattle.std.specs.Prelude.{slice_get, slice_index}
 use Rattle.std.proofs.lemmas.List.{ext_get_or}
 use Rattle.std.proofs.lemmas.Option.{slice_get_cases}
 use Rattle.processor.specs.Ends.{cycles_in, end_under}
@@ -8,7 +8,7 @@ use Rattle.processor.specs.Results.{Ran}
 use Rattle.graph.specs.JobGraph.{JobGraph}
 use Rattle.graph.specs.NetGraph.{IsNetGraph}
 use Rattle.graph.specs.declared.net.Net.{Net}
-use Rattle.tables.specs.Named.{job_at, entry_at}
+use Rattle.tables.specs.Named.{entry_at}
 use Rattle.tables.specs.Valid.{AreValid}
 use Rattle.tables.specs.declared.table.Tables.{Tables}
 use Rattle.net_run.specs.NetRun.{Execution}
@@ -27,7 +27,7 @@ use Rattle.cluster_model.specs.State as status
 use Rattle.cluster_model.specs.State.{Status}
 use Rattle.cluster_model.specs.Tick.{closes}
 use Rattle.tick_parts.proofs.Lists.{listed_at, length_listed}
-use Rattle.replica_desk.specs.Desk.{state_in_hand, IsInHand, HasInHand, IsDesk}
+use Rattle.replica_desk.specs.Desk.{IsInHand, HasInHand, IsDesk}
 use Rattle.replica_desk.specs.declared.desk.Desk.{Desk}
 use Rattle.replica_desk.proofs.Ended.{jobs_stay, none_seen, states_stay}
 use Rattle.replica_desk.proofs.Limits.{whole_limit}

@@ -1,4 +1,4 @@
-use Rattle.std.proofs.Common.{◌≡◌, ◌<◌, ap, arith}
+use Rattle.std.proofs.Common.{ap, arith}
 use Rattle.graph.specs.NetGraph.{IsNetGraph}
 use Rattle.plant.specs.Lengths.{lengths_of}
 use Rattle.tdma.specs.Layout.{Layout, cycle_ticks}

@@ -1,4 +1,4 @@
-use Rattle.std.proofs.Common.{◌≡◌, ℕ, List, ◌++◌, map, ℤ, None, Some, sym, ◌∙◌, ap, subst, append-nil}
+use Rattle.std.proofs.Common.{◌≡◌, List, ◌++◌, map, ℤ, sym, ◌∙◌, ap, append-nil}
 use Rattle.tables.specs.Named.{entry_at}
 use Rattle.tables.specs.declared.table.JobEntry.{JobEntry}
 use Rattle.plant_run.specs.PlantRun.{plant_execution, plant_cost}
@@ -6,7 +6,7 @@ use Rattle.job_book.specs.Known.{status_of}
 use Rattle.cluster_model.specs.declared.effect.Effect.{Effect}
 use Rattle.replica_desk.specs.Desk.{state_in_hand}
 use Rattle.replica_work.specs.Works.{state_for}
-use Rattle.replica_work.proofs.Later.{graph_of, one_quiet, none_quiet, same_jobs, same_states, unseen}
+use Rattle.replica_work.proofs.Later.{graph_of, one_quiet, same_jobs, same_states, unseen}
 use Rattle.replica_work.proofs.ending.after_work.Goals as goal
 
 pub returns-then-entry_at-desk-clause-jobs : goal.returns-then-entry_at-desk-clause-jobs

@@ -1,12 +1,10 @@
-use Rattle.std.proofs.Common.{◌≡◌, ℕ, List, ◌++◌, map, ℤ, None, Some, sym, ◌∙◌, ap, subst, append-nil}
-use Rattle.tables.specs.Named.{entry_at}
-use Rattle.tables.specs.declared.table.JobEntry.{JobEntry}
+use Rattle.std.proofs.Common.{◌≡◌, List, ◌++◌, map, ℤ, sym, ◌∙◌, ap, append-nil}
 use Rattle.plant_run.specs.PlantRun.{plant_execution, plant_cost}
 use Rattle.job_book.specs.Known.{status_of}
 use Rattle.cluster_model.specs.declared.effect.Effect.{Effect}
 use Rattle.replica_desk.specs.Desk.{state_in_hand}
 use Rattle.replica_work.specs.Works.{state_for}
-use Rattle.replica_work.proofs.Later.{graph_of, one_quiet, none_quiet, same_jobs, same_states, unseen}
+use Rattle.replica_work.proofs.Later.{graph_of, none_quiet, same_jobs, same_states, unseen}
 use Rattle.replica_work.proofs.ending.finish.Goals as goal
 
 pub returns-in-Some-clause-jobs : goal.returns-in-Some-clause-jobs

@@ -1,7 +1,4 @@
-use Rattle.std.proofs.Common.{◌≡◌, ℕ, List, [], ◌∷◌, ◌++◌, ℤ, sym, ◌∙◌, ap, append_assoc}
-use Rattle.processor.specs.Ends.{cycles_in}
-use Rattle.processor.specs.Results.{turn_of}
-use Rattle.processor.specs.declared.cpu.Turn.{Turn}
+use Rattle.std.proofs.Common.{List, [], ◌∷◌, ◌++◌, sym, ◌∙◌, ap, append_assoc}
 use Rattle.graph.specs.declared.job.Job.{Job}
 use Rattle.cluster_model.specs.Effects.{out_effects}
 use Rattle.cluster_model.specs.PlanOf.{plan_of, fed_by}

@@ -1,7 +1,7 @@
-use Rattle.std.proofs.Common.{◌≡◌, ℕ, sym, ◌∙◌, ap, subst}
+use Rattle.std.proofs.Common.{◌≡◌, sym, ◌∙◌, ap, subst}
 use Rattle.tables.specs.Named.{entry_at}
 use Rattle.tables.specs.declared.table.JobEntry.{JobEntry}
-use Rattle.replica_work.specs.Works.{limit_before, state_for}
+use Rattle.replica_work.specs.Works.{state_for}
 use Rattle.replica_work.proofs.Later.{no_ticks}
 use Rattle.replica_work.proofs.working.begin.Goals as goal
 

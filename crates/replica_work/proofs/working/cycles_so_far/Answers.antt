@@ -1,5 +1,4 @@
-use Rattle.std.proofs.Common.{◌≡◌, ◌<◌, length, sym, ◌∙◌, ap, arith}
-use Rattle.plant.specs.InOrder.{IsInOrder}
+use Rattle.std.proofs.Common.{sym, ◌∙◌, ap, arith}
 use Rattle.cluster_plan.proofs.Numbers.{is_of}
 use Rattle.replica_work.specs.Works.{task_in, limit_before, state_for, cycles_by}
 use Rattle.replica_work.proofs.Later.{graph_of, found}

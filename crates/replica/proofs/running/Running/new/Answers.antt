@@ -1,4 +1,4 @@
-use Rattle.std.proofs.Common.{◌≡◌, ℕ, ◌≤◌, List, length, ◌∙◌, subst, ap}
+use Rattle.std.proofs.Common.{ℕ, ◌≤◌, List, length, ◌∙◌, subst, ap}
 use Rattle.std.specs.Prelude.{slice_index}
 use Rattle.cluster_model.specs.Cluster.{fresh_held, first_held_states}
 use Rattle.cluster_model.specs.PlanOf.{plan_of}

@@ -1,4 +1,4 @@
-use Rattle.std.proofs.Common.{◌≡◌, ℤ, List, sym, subst}
+use Rattle.std.proofs.Common.{ℤ, List, sym, subst}
 use Rattle.plant_run.specs.PlantRun.{plant_execution, plant_cost}
 use Rattle.replica_desk.specs.Desk.{HasStates}
 use Rattle.replica.proofs.Held.{runs_none}

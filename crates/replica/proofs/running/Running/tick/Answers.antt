@@ -1,5 +1,4 @@
-use Rattle.std.proofs.Common.{◌≡◌, ℕ, ◌+◌, List, ◌++◌, length, map, ℤ, refl, ◌∙◌, ap}
-use Rattle.job_book.specs.Known.{status_of}
+use Rattle.std.proofs.Common.{ℕ, ◌+◌, List, ◌++◌, length, ℤ, refl, ◌∙◌, ap}
 use Rattle.cluster_model.specs.Effects.{take_effects, put_effects, start_effects}
 use Rattle.cluster_model.specs.Plan.{Plan, listed}
 use Rattle.cluster_model.specs.State.{Held, Bus, Status}
