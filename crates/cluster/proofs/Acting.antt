@@ -1,7 +1,7 @@
 -- Which events may come, by the clocks.
-use Rattle.std.proofs.Common.{◌≡◌, ◌↔◌, ℕ, ◌+◌, ◌*◌, ◌<◌, ◌≤◌, inl, inr, Bool, true, false, not, List, length, map, get_or, ℤ, refl, sym, ◌∙◌, ap, subst, arith}
+use Rattle.std.proofs.Common.{◌≡◌, ◌↔◌, ℕ, ◌*◌, ◌<◌, inl, inr, true, not, List, length, map, get_or, refl, sym, ◌∙◌, ap, subst, arith}
 use Rattle.std.proofs.lemmas.Bool.{cases_Bool, true≢false}
-use Rattle.std.proofs.lemmas.List.{get_or-map, length-map}
+use Rattle.std.proofs.lemmas.List.{get_or-map}
 use Rattle.mars_base.specs.declared.shape.Side.{Side}
 use Rattle.cluster_agreement.proofs.Reading.{number_within}
 use Rattle.cluster_clocks.proofs.Members.{acts_are_enabled, overs_are_over}

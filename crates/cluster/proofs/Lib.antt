@@ -1,4 +1,7 @@
 pub mod Acting
+pub mod Can
+pub mod Happens
 pub mod Noted
 pub mod Setting
+pub mod Settled
 pub mod Turned

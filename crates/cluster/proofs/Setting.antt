@@ -1,5 +1,5 @@
 -- Cycles have ticks, and clocks may differ.
-use Rattle.std.proofs.Common.{◌≡◌, ℕ, ◌<◌, List, length, ℤ, arith}
+use Rattle.std.proofs.Common.{ℕ, ◌<◌, List, length, ℤ, arith}
 use Rattle.graph.specs.JobGraph.{JobGraph}
 use Rattle.graph.specs.declared.net.Net.{Net}
 use Rattle.tables.specs.declared.table.Tables.{Tables}

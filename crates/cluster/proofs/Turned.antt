@@ -1,8 +1,7 @@
 -- The begin of a cycle.
-use Rattle.std.proofs.Common.{◌≡◌, ℕ, zero, suc, ◌+◌, ◌*◌, ◌<◌, ◌≤◌, List, [], ◌∷◌, length, map, get_or, ℤ, slice_index, Option, None, refl, sym, ◌∙◌, ap, subst, arith}
+use Rattle.std.proofs.Common.{◌≡◌, ℕ, zero, suc, ◌<◌, List, [], ◌∷◌, length, map, get_or, ℤ, slice_index, Option, None, refl, sym, ◌∙◌, ap, subst, arith}
 use Rattle.std.specs.List.{All}
 use Rattle.std.proofs.lemmas.List.{length-map}
-use Rattle.mars_base.specs.declared.shape.Side.{Side}
 use Rattle.bus.specs.Numbers.{BusState, slot_count}
 use Rattle.bus.specs.SlotState.{Open, Whole, slot_at}
 use Rattle.tdma.specs.Layout.{Layout}
@@ -12,12 +11,12 @@ use Rattle.cluster_model.specs.Cluster.{left_states, turned, turn}
 use Rattle.graph.specs.NetGraph.{IsNetGraph}
 use Rattle.plant.specs.declared.system.Plant.{Plant}
 use Rattle.cluster_model.specs.Plan.{Plan}
-use Rattle.cluster_model.specs.State.{state_in, Member, no_member, replica_number, member_of, State}
+use Rattle.cluster_model.specs.State.{state_in, Member, no_member, member_of, State}
 use Rattle.cluster_reached.specs.InPlace.{IsInPlace, AreInPlace}
 use Rattle.cluster_seats.proofs.Members.{on_at, unit_within}
 use Rattle.cluster_seats.specs.Seats.{Seated, seat_at, AreSeated, member_on, members_on, plan_for}
 use Rattle.cluster_starts.proofs.Homes.{home_is}
-use Rattle.cluster_starts.specs.Left.{home_of, HaveRoom, state_with}
+use Rattle.cluster_starts.specs.Left.{HaveRoom, state_with}
 use Rattle.cluster_act.proofs.Acting.{seen_at}
 
 -- an element of a list by its number

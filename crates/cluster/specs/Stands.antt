@@ -1,5 +1,5 @@
 -- The state of the model that a cluster stands for. This project's own.
-use Rattle.std.specs.Prelude.{◌≡◌, ℕ, ◌*◌, ◌<◌, List, [], length, map, get_or, ℤ, slice_index, None}
+use Rattle.std.specs.Prelude.{◌≡◌, ℕ, ◌*◌, ◌<◌, List, [], length, map, set, get_or, slice_index, None}
 use Rattle.std.specs.List.{All}
 use Rattle.mars_base.specs.declared.shape.Side.{Side}
 use Rattle.graph.specs.Cycle.{sensor_words}
@@ -7,10 +7,14 @@ use Rattle.plant.specs.declared.system.Plant.{Plant}
 use Rattle.tables.specs.Valid.{bus_of}
 use Rattle.tick_parts.specs.OnBus.{IsBusOf}
 use Rattle.first_silence.specs.Moments.{IsFirstSilence}
-use Rattle.cluster_model.specs.State.{replica_number, State}
+use Rattle.cluster_model.specs.State.{replica_number, Member, State}
 use Rattle.cluster_seats.specs.Seats.{Seated, AreSeated, members_on}
 use Rattle.cluster.specs.Clocks.{clock_seen}
 use Rattle.cluster.specs.declared.state.Cluster.{Cluster}
+
+-- one replica is another
+abbrev pub with_member : (number : ℕ) → Member → State → State
+with_member number m s = record { cycle = s.cycle; line = s.line; start = s.start; members = set s.members number m }
 
 module _ {S : Type 0} (seat : S → Seated) where
   abbrev pub seats_of : Cluster S → List Seated

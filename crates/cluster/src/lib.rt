@@ -3,6 +3,7 @@
 
 pub mod clocks;
 pub mod enabled;
+pub mod event;
 pub mod state;
 pub mod turn;
 

@@ -1,8 +1,7 @@
-use Rattle.std.proofs.Common.{◌≡◌, ◌*◌, ℕ, true, false, length, sym, ◌∙◌, subst}
+use Rattle.std.proofs.Common.{◌≡◌, ◌*◌, length, sym, ◌∙◌, subst}
 use Rattle.std.proofs.lemmas.Bool.{true≢false}
 use Rattle.std.proofs.lemmas.List.{length-map}
 use Rattle.cluster_clocks.specs.Clocks.{IsOver}
-use Rattle.cluster_clocks.specs.declared.clock.Clock.{Clock}
 use Rattle.cluster_model.specs.Plan.{Plan}
 use Rattle.cluster_model.specs.State.{State}
 use Rattle.cluster_seats.specs.Seats.{member_on, plan_for}

@@ -1,11 +1,11 @@
-use Rattle.std.proofs.Common.{◌≡◌, ◌+◌, ℕ, List, length, map, refl, sym, ◌∙◌, ap, subst, arith}
+use Rattle.std.proofs.Common.{◌+◌, map, refl, sym, ◌∙◌, ap, subst, arith}
 use Rattle.tables.specs.Valid.{bus_of}
 use Rattle.tdma.specs.Layout.{Layout}
 use Rattle.cluster_model.specs.Cluster.{left_states}
 use Rattle.cluster_model.specs.Plan.{Plan}
 use Rattle.cluster_model.specs.State.{State}
 use Rattle.cluster_seats.proofs.Members.{fresh_seated, turn_members}
-use Rattle.cluster_seats.specs.Seats.{Seated, AreSeated, members_on, plan_for}
+use Rattle.cluster_seats.specs.Seats.{AreSeated, members_on, plan_for}
 use Rattle.cluster_starts.specs.Left.{HaveRoom, state_with}
 use Rattle.cluster.specs.Clocks.{clock_seen}
 use Rattle.cluster.specs.Stands.{state_of, seats_of}
