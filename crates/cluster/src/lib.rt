@@ -4,6 +4,7 @@
 pub mod clocks;
 pub mod enabled;
 pub mod event;
+pub mod given;
 pub mod state;
 pub mod turn;
 
