@@ -147,14 +147,85 @@ fn damaged_images(rt: HostRuntime) -> Result<(), Fail> {
     Ok(())
 }
 
-// Each front of an image breaks off within a field.
+// Where the fields of the image of two tasks begin, by the table of fields.
+const FIELDS: [usize; 100] = [
+    0, 4, 5, 6, 7, 8, 10, // head and cluster
+    14, 15, 17, 18, 19, 23, 25, 27, 29, 30, 32, 33, 35, 36, 38, // a, its cells and its start
+    40, 41, 42, 46, 47, 48, 52, 53, 54, 58, 59, 60, 64, 65, 66, // its instructions
+    70, 72, 73, 74, 78, 80, 82, 84, 85, 87, 88, 90, 91, 93, // b, its cells and its start
+    95, 96, 97, 101, 102, 103, 107, 108, 109, 113, 114, 115, 119, 120, 121, // its instructions
+    125, 126, 128, 132, 136, 138, 139, 140, 141, // transactions and edges
+    142, 144, 146, 147, 148, 150, 152, 153, // sensors and actuators
+    154, 156, 157, 159, 160, 164, 168, 169, 171, 172, 176, // jobs
+    180, 182, 184, 186, 187, 189, // messages
+];
+
+// Each front of an image breaks off within a field, the last that it begins.
 #[test]
 fn fronts_of_an_image(rt: HostRuntime) -> Result<(), Fail> {
     let alloc = rt.alloc();
+    let mut field = 0;
     for length in 0..TWO.len() {
+        if FIELDS.contains(&length) {
+            field = length;
+        }
         let fault = fault_of(alloc, TWO, length, &[])?;
-        let ends = matches!(fault, Some(Bytes(at)) if at as usize <= length);
-        assert!(rt; ends, "{length}");
+        let breaks_off = matches!(fault, Some(Bytes(at)) if at as usize == field);
+        assert!(rt; breaks_off, "{length}");
+    }
+    Ok(())
+}
+
+// Bytes that may stand in place of one of the first image's, of four that are tried in each place: a letter of a name; other
+// cycles of a tick, places and counters; an operand, or another instruction, of the same heights; a longer period, and a
+// sooner deadline.
+const TAKEN: [(usize, u8); 35] = [
+    (8, 0x01),
+    (9, 0x41),
+    (9, 0xff),
+    (16, 0x41),
+    (17, 0x41),
+    (18, 0x41),
+    (24, 0x01),
+    (25, 0x01),
+    (26, 0x41),
+    (26, 0xff),
+    (27, 0x01),
+    (28, 0x01),
+    (28, 0x41),
+    (28, 0xff),
+    (42, 0x00),
+    (47, 0x01),
+    (48, 0x01),
+    (50, 0x01),
+    (50, 0x41),
+    (50, 0xff),
+    (51, 0x01),
+    (51, 0x41),
+    (51, 0xff),
+    (52, 0x01),
+    (52, 0x41),
+    (52, 0xff),
+    (53, 0x00),
+    (53, 0x41),
+    (53, 0xff),
+    (65, 0x00),
+    (74, 0x41),
+    (77, 0xff),
+    (82, 0x01),
+    (88, 0x41),
+    (94, 0x41),
+];
+
+#[test]
+fn each_byte_of_an_image(rt: HostRuntime) -> Result<(), Fail> {
+    let alloc = rt.alloc();
+    for (at, old) in ONE.iter().enumerate() {
+        for byte in [0x00, 0x01, 0x41, 0xff] {
+            let fault = fault_of(alloc, ONE, 113, &[(at, byte)])?;
+            let taken = *old == byte || TAKEN.contains(&(at, byte));
+            assert_eq!(rt; fault.is_none(), taken, "{at} {byte}");
+        }
     }
     Ok(())
 }
