@@ -4,8 +4,8 @@
 ghost use Rattle.whole_meaning.specs.Whole.{WholeMeaning};
 
 /// What holds of every plant that carries a source project, under any script and over any lines that fit it: the
-/// whole text of its run, and of a cluster that runs by it, is that of the source; no task took more cycles than its
-/// bound; and an instance that the source gives is never cut.
+/// whole text of its run, and of a cluster that runs by it, is that of the source; the most cycles that it tells of a
+/// task are within its bound; and an instance that the source gives is never cut.
 pub fn whole_meaning()
     ensures { WholeMeaning }
 {}
