@@ -68,3 +68,11 @@ module _ (p : Plan) (some_ticks : 0 < p.cycle) (some_skew : 0 < p.skew) (s : Sta
       (subst (λ k. MayAct (clocks_of s.members) k cycle p.skew ↔ IsEnabled p (settled p s).members u x) (sym f)
       (subst (λ k. MayAct (clocks_of s.members) (replica_number u x) k p.skew ↔ IsEnabled p (settled p s).members u x) (sym h)
       (enabled_within (λ o. early (subst (λ (cs : List Clock). IsOver cs cycle) (sym e) (subst (IsOver (clocks_of s.members)) (sym h) o))))))
+
+  -- in the cycle itself, by clocks that are the members'
+  pub acts_by : (clocks : List Clock) (n cycle : ℕ) → clocks ≡ clocks_of s.members → n ≡ replica_number u x → cycle ≡ p.cycle → MayAct clocks n cycle p.skew ↔ IsEnabled p s.members u x
+  acts_by clocks n cycle e f h =
+      subst (λ (cs : List Clock). MayAct cs n cycle p.skew ↔ IsEnabled p s.members u x) (sym e)
+      (subst (λ k. MayAct (clocks_of s.members) k cycle p.skew ↔ IsEnabled p s.members u x) (sym f)
+      (subst (λ k. MayAct (clocks_of s.members) (replica_number u x) k p.skew ↔ IsEnabled p s.members u x) (sym h)
+      (acts_are_enabled p s.members u x size low)))

@@ -1,5 +1,6 @@
 pub mod Acting
 pub mod Can
+pub mod First
 pub mod Happens
 pub mod Noted
 pub mod Setting

@@ -1,4 +1,6 @@
 //! The state of a cluster.
+ghost use Rattle.std.specs.Prelude.{◌≡◌};
+
 use bus::Bus;
 use cluster_clocks::Clock;
 use cycle_line::CycleLine;
@@ -28,4 +30,11 @@ pub struct Cluster<S> {
     pub(crate) firsts: Vec<Option<Moment>>,
     /// What was seen of the last event.
     pub(crate) seen: EffectBuf,
+}
+
+/// The number of the cycle, from 0.
+pub fn cycle_number<S>(cluster: &Cluster<S>) -> u32
+    ensures { result ≡ cluster.now.cycle }
+{
+    cluster.cycle
 }
