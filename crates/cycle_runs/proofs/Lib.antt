@@ -1,0 +1,4 @@
+pub mod Answered
+pub mod Closes
+pub mod Ends
+pub mod Steps
